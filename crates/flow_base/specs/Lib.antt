@@ -1,0 +1,10 @@
+pub mod Counts
+pub mod FailingCalls
+pub mod FaultCounts
+pub mod Files
+pub mod MemShelf
+pub mod MemSink
+pub mod RealShelf
+pub mod RealSink
+pub mod Shelf
+pub mod Sink
