@@ -1,0 +1,3 @@
+pub mod Places
+mod Texts
+pub mod Trees
