@@ -1,0 +1,10 @@
+pub mod Answer
+pub mod Evaluated
+pub mod GraphValue
+pub mod Outside
+pub mod Parsed
+pub mod Reply
+pub mod Run
+pub mod Sampled
+pub mod Status
+pub mod Words

@@ -1,0 +1,77 @@
+-- What a run does to the shelf and the sinks that it is lent.
+use Rattle.std.specs.Prelude.{◌≡◌, ℕ, List, [], Option, Some, None, ⊤, ◌⊎◌, codes}
+use Rattle.flow_base.specs.Counts.{Rose}
+use Rattle.flow_base.specs.Shelf.{ShelfView}
+use Rattle.flow_base.specs.Sink.{SinkView, Adds, AddsFront}
+use Rattle.flow_program.specs.Words.{Request, Sample, asked}
+use Rattle.flow_program.specs.Answer.{Answer}
+use Rattle.flow_program.specs.Run.{RunAnswer, SampleAnswer}
+
+-- the shelf and the two sinks at one moment
+pub record Outside : Type 0 where
+  pub shelf : ShelfView
+  pub out : SinkView
+  pub err : SinkView
+
+abbrev pub outside : ShelfView → SinkView → SinkView → Outside
+outside shelf out err = record { shelf = shelf; out = out; err = err }
+
+-- bytes that may stand under a name: any where it isn't told, none where it is told that nothing stands there
+abbrev pub MayStand : Option (Option (List ℕ)) → List ℕ → Type 0
+MayStand None bytes = ⊤
+MayStand (Some None) bytes = ⊥
+MayStand (Some (Some told)) bytes = told ≡ bytes
+
+-- the answer of sampling bytes that may stand under a name, modulo m
+abbrev pub StandsSampled : ℕ → Option (Option (List ℕ)) → Answer → Type 0
+StandsSampled m told answer = (bytes : List ℕ) × MayStand told bytes × SampleAnswer m bytes answer
+
+-- bytes that may stand under the file that is asked for
+abbrev pub MayStandAsked : Option Request → ShelfView → List ℕ → Type 0
+MayStandAsked None shelf bytes = ⊤
+MayStandAsked (Some (Sample file)) shelf bytes = MayStand (shelf.files file) bytes
+
+-- the answer of the words and of the bytes that stood under the file that they name
+pub record IsRightAnswer (words : List (List ℕ)) (shelf : ShelfView) (answer : Answer) : Type 0 where
+  pub bytes : List ℕ
+  pub stood : MayStandAsked (asked words) shelf bytes
+  pub right : RunAnswer words bytes answer
+
+-- the run told its answer: the status, and all of out and err
+pub record Tells (words : List (List ℕ)) (status : ℕ) (old new : Outside) : Type 0 where
+  pub answer : Answer
+  pub is_right : IsRightAnswer words old.shelf answer
+  pub status_told : status ≡ answer.status
+  pub out_told : Adds old.out new.out answer.out
+  pub err_told : Adds old.err new.err answer.err
+
+-- nothing went to out, and one text to err
+pub record TellsOnly (text : List ℕ) (old new : Outside) : Type 0 where
+  pub out_told : Adds old.out new.out []
+  pub err_told : Adds old.err new.err text
+
+-- nothing went to out, and a front of one text to err
+pub record TellsFront (text : List ℕ) (old new : Outside) : Type 0 where
+  pub out_told : Adds old.out new.out []
+  pub err_told : AddsFront old.err new.err text
+
+-- fronts of the answer's out and err
+pub record TellsAnswerFront (words : List (List ℕ)) (old new : Outside) : Type 0 where
+  pub answer : Answer
+  pub is_right : IsRightAnswer words old.shelf answer
+  pub out_told : AddsFront old.out new.out answer.out
+  pub err_told : AddsFront old.err new.err answer.err
+
+-- the shelf's count of the file that is asked for rose
+abbrev pub FileRose : Option Request → ShelfView → ShelfView → Type 0
+FileRose None old new = ⊥
+FileRose (Some (Sample file)) old new = Rose (old.faults file) (new.faults file)
+
+abbrev pub SinkRose : Outside → Outside → Type 0
+SinkRose old new = Rose old.out.faults new.out.faults ⊎ Rose old.err.faults new.err.faults
+
+-- what stands on out and err where a write failed: fronts of the answer, or of one of the two texts of a fault
+abbrev pub BreaksOff : List (List ℕ) → Outside → Outside → Type 0
+BreaksOff words old new = TellsAnswerFront words old new
+    ⊎ ((FileRose (asked words) old.shelf new.shelf × TellsFront (codes "flow: read fault\n") old new)
+    ⊎ TellsFront (codes "flow: no memory\n") old new)

@@ -1,0 +1,46 @@
+-- What the words after the program's name ask for, and where they go wrong.
+use Rattle.std.specs.Prelude.{◌≡◌, ℕ, ◌+◌, ◌<◌, ◌≤◌, ◌==◌, ◌&&◌, ◌||◌, not, Bool, true, false, List, [], ◌∷◌, ◌++◌, length, take, Option, Some, None, codes, bytes_eq, if◌then◌else◌, map, string_bytes}
+use Rattle.std.specs.declared.string.String.{String}
+use Rattle.std.specs.declared.alloc.Global.{Global}
+use Rattle.flow_program.specs.declared.words.Command.{Command}
+use Rattle.flow_program.specs.declared.words.Command.TheVariants as command
+
+-- the bytes of each word
+abbrev pub texts : List (String Global) → List (List ℕ)
+texts words = map string_bytes words
+
+-- what the program can be asked to do, with names as their bytes
+pub data Request : Type 0 where
+  Sample : (file : List ℕ) → Request
+
+-- what a command asks for
+abbrev pub request : Command → Request
+request (command.Sample file) = Sample (string_bytes file)
+
+-- the word isn't empty and doesn't begin with a dash
+abbrev pub begins_with_no_dash : List ℕ → Bool
+begins_with_no_dash [] = false
+begins_with_no_dash (byte ∷ rest) = not (byte == 45)
+
+-- a word that names a file: a dash alone, or a word that doesn't begin with one
+abbrev pub is_file : List ℕ → Bool
+is_file word = bytes_eq word (codes "-") || begins_with_no_dash word
+
+-- what the words ask for, where the grammar admits them: `sample` and a file
+abbrev pub asked : List (List ℕ) → Option Request
+asked (word ∷ file ∷ []) = if bytes_eq word (codes "sample") && is_file file then Some (Sample file) else None
+asked [] = None
+asked (word ∷ []) = None
+asked (word ∷ file ∷ more ∷ rest) = None
+
+-- some admitted words begin with these
+abbrev pub IsFront : List (List ℕ) → Type 0
+IsFront words = (rest : List (List ℕ)) × (wish : Request) × (asked (words ++ rest) ≡ Some wish)
+
+-- The words are admitted for nothing, and go wrong at the k-th, counted from 1: the first k - 1 words
+-- begin some admitted words, and the first k don't, or there is no k-th word.
+pub record IsBadAt (words : List (List ℕ)) (k : ℕ) : Type 0 where
+  pub refused : asked words ≡ None
+  pub fronts : (j : ℕ) → j < k → IsFront (take j words)
+  pub breaks : k ≤ length words → IsFront (take k words) → ⊥
+  pub within : k ≤ length words + 1

@@ -1,0 +1,38 @@
+//! How a run ended.
+
+ghost use Rattle.std.specs.Prelude.{◌≡◌, ◌≤◌};
+
+/// How a run ended, as the process tells it.
+#[derive(Clone, Copy, Debug, PartialEq, Eq)]
+pub enum Status {
+    /// Every point was sampled, whether it has a value or is singular.
+    Done,
+    /// The words ask for nothing.
+    BadWords,
+    /// The file is too long, or is no job.
+    BadFile,
+    /// The file can't be read.
+    ReadFault,
+    /// Something written was not taken.
+    WriteFault,
+    /// There was no memory.
+    NoMemory,
+}
+
+impl Status {
+    ghost use Rattle.flow_program.specs.Status.{code_of};
+
+    /// The exit status of the process, from 0 to 8.
+    pub fn code(&self) -> u8
+        ensures { result ≡ code_of self.now }
+    {
+        match self {
+            Status::Done => 0,
+            Status::BadWords => 2,
+            Status::BadFile => 3,
+            Status::ReadFault => 6,
+            Status::WriteFault => 7,
+            Status::NoMemory => 8,
+        }
+    }
+}
