@@ -1,23 +1,19 @@
 -- What evaluating a graph node by node says of its value.
-use Rattle.std.proofs.Common.{◌≡◌, ◌≢◌, ℕ, zero, suc, ◌+◌, ◌-◌, ◌<◌, ◌≤◌, Bool, true, false, IsTrue, MatchBool, List, [], ◌∷◌, ◌++◌, length, map, take, Option, Some, None, refl, sym, ◌∙◌, ap, subst, arith, ◌⊎◌, inl, inr, length-append, get_or}
+use Rattle.std.proofs.Common.{◌≡◌, ℕ, ◌+◌, ◌-◌, ◌<◌, ◌≤◌, Bool, true, false, MatchBool, List, [], ◌∷◌, ◌++◌, length, take, Option, Some, None, refl, sym, ◌∙◌, ap, subst, arith, inl, inr, length-append, get_or}
 use Rattle.std.specs.Prelude.{slice_get, slice_index_or}
 use Rattle.std.proofs.lemmas.Bool.{cases_eq}
 use Rattle.std.proofs.lemmas.Option.{slice_get_read, slice_get_within}
 use Rattle.std.proofs.lemmas.List.{take-append-le}
 use Rattle.std.proofs.Math.Seq.{take-append_seam, get_or-append_seam}
 use Rattle.std.proofs.Math.ListN.{get_or-append}
-use Rattle.ratfun_text.specs.declared.expr.Expr.{Expr}
-use Rattle.ratfun_text.specs.Value.{value}
-use Rattle.graph_file.specs.Form.{all_of}
 use Rattle.graph_file.specs.declared.graph.Graph.{Graph}
 use Rattle.graph_file.specs.declared.graph.Node.{Node}
 use Rattle.graph_file.specs.declared.graph.NodeKind.{NodeKind}
 use Rattle.graph_file.specs.declared.graph.NodeKind.TheVariants.{Eval}
 use Rattle.graph_file.specs.declared.graph.Source.{Source}
-use Rattle.graph_file.specs.declared.graph.Source.TheVariants as source
 use Rattle.flow_program.specs.declared.evaluation.Cause.{Cause}
 use Rattle.flow_program.specs.declared.evaluation.Cause.TheVariants.{Division}
-use Rattle.flow_program.specs.GraphValue.{Meaning, Outcome, Value, SingularAt, named, KindGives, KindFails, NodeGives, NodeFails, FirstLists, IsValue, IsSingular, GraphMeans, GraphValue, MeansAt, meanings, main_number}
+use Rattle.flow_program.specs.GraphValue.{Meaning, Outcome, Value, SingularAt, named, KindGives, KindFails, NodeGives, FirstLists, GraphMeans, GraphValue, MeansAt, meanings, main_number}
 use Rattle.flow_program.specs.Evaluated.{NodeAnswers, no_graphs}
 
 -- What a node answers doesn't rest on other graphs, as long as no kind of node calls one.

@@ -1,5 +1,5 @@
 -- Words and bytes have at most one answer.
-use Rattle.std.proofs.Common.{◌≡◌, ℕ, ◌<◌, Bool, true, false, MatchBool, List, [], ◌∷◌, length, Option, Some, None, refl, sym, ◌∙◌, ap, arith}
+use Rattle.std.proofs.Common.{◌≡◌, ℕ, Bool, true, false, MatchBool, List, [], ◌∷◌, length, Option, Some, None, refl, sym, ◌∙◌, ap}
 use Rattle.std.specs.Prelude.{nat_lt}
 use Rattle.graph_file.specs.declared.graph.Graph.{Graph}
 use Rattle.graph_file.specs.Form.{FileForm, form_of}
@@ -10,7 +10,7 @@ use Rattle.flow_program.specs.Answer.{Answer}
 use Rattle.flow_program.specs.Words.{Request, Sample, asked}
 use Rattle.flow_program.specs.GraphValue.{Meaning, Outcome, GraphValue, main_number}
 use Rattle.flow_program.specs.Sampled.{AreOutcomes, FormAnswer, JobAnswer, SamplesTo, sampled}
-use Rattle.flow_program.specs.Run.{RequestAnswer, RunAnswer, SampleAnswer, long_answer, words_answer}
+use Rattle.flow_program.specs.Run.{RequestAnswer, RunAnswer, long_answer, words_answer}
 use Rattle.flow_program.proofs.WordsLaws.{one_bad_place}
 use Rattle.flow_program.proofs.OneValue.{one_outcome}
 

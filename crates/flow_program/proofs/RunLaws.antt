@@ -1,15 +1,15 @@
 -- What a file that is read to a length over the limit says of the run's answer.
-use Rattle.std.proofs.Common.{◌≡◌, ℕ, ◌<◌, ◌≤◌, List, length, Option, Some, None, refl, sym, ◌∙◌, subst, MatchBool}
+use Rattle.std.proofs.Common.{◌≡◌, ℕ, ◌<◌, ◌≤◌, List, length, Option, Some, None, refl, sym, subst, MatchBool}
 use Rattle.std.specs.Option.{ForSome}
 use Rattle.std.proofs.lemmas.Bool.{le-ltb, lt-ltb}
-use Rattle.flow_base.specs.Shelf.{ShelfView, Opens, Takes, TakesMore}
+use Rattle.flow_base.specs.Shelf.{ShelfView, Opens, TakesMore}
 use Rattle.flow_program.specs.declared.TheConstants.{FILE_LIMIT}
 use Rattle.flow_program.specs.Words.{Request, Sample, asked}
 use Rattle.flow_program.specs.Answer.{Answer}
 use Rattle.prime_field.specs.Modulus.{value_of}
 use Rattle.prime_field.specs.declared.Modulus.TheVariants.{First}
 use Rattle.flow_program.specs.Sampled.{JobAnswer}
-use Rattle.flow_program.specs.Run.{RequestAnswer, RunAnswer, long_answer}
+use Rattle.flow_program.specs.Run.{RequestAnswer, long_answer}
 use Rattle.flow_program.specs.Outside.{MayStand, MayStandAsked, StandsSampled, IsRightAnswer}
 
 -- some bytes over the limit may stand under the name

@@ -1,5 +1,5 @@
 -- The value of a graph at a point, modulo m.
-use Rattle.std.specs.Prelude.{◌≡◌, ℕ, zero, suc, ◌-◌, ◌<◌, ◌≤◌, ◌==◌, Bool, true, false, IsTrue, MatchBool, List, [], ◌∷◌, length, map, take, slice_get, slice_index_or, Option, Some, None, option_map, ⊤}
+use Rattle.std.specs.Prelude.{◌≡◌, ℕ, zero, suc, ◌-◌, ◌<◌, ◌≤◌, ◌==◌, Bool, true, false, IsTrue, MatchBool, List, [], length, map, take, slice_get, slice_index_or, Option, Some, None}
 use Rattle.ratfun_text.specs.Value.{value}
 use Rattle.graph_file.specs.Form.{all_of}
 use Rattle.graph_file.specs.declared.graph.Graph.{Graph}

@@ -1,5 +1,4 @@
 -- The answer that a reply stands for.
-use Rattle.std.specs.Prelude.{ℕ, List}
 use Rattle.flow_program.specs.declared.reply.Reply.{Reply}
 use Rattle.flow_program.specs.Status.{code_of}
 use Rattle.flow_program.specs.Answer.{Answer}

@@ -1,5 +1,5 @@
 -- What a run answers: a relation of the words, the bytes under the file that they name, and the answer.
-use Rattle.std.specs.Prelude.{◌≡◌, ℕ, ◌<◌, List, [], ◌++◌, length, Option, Some, None, MatchBool, nat_lt, codes, ⊤}
+use Rattle.std.specs.Prelude.{◌≡◌, ℕ, List, ◌++◌, length, Option, Some, None, MatchBool, nat_lt, codes}
 use Rattle.std.specs.Fmt.{decimal}
 use Rattle.prime_field.specs.Modulus.{value_of}
 use Rattle.prime_field.specs.declared.Modulus.TheVariants.{First}

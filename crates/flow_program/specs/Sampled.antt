@@ -1,9 +1,8 @@
 -- The answer of a file that is to be sampled.
-use Rattle.std.specs.Prelude.{◌≡◌, ℕ, ◌-◌, ◌<◌, List, [], ◌∷◌, ◌++◌, length, map, slice_get, slice_index_or, Option, Some, None, codes, ⊤}
+use Rattle.std.specs.Prelude.{◌≡◌, ℕ, List, [], ◌∷◌, ◌++◌, map, slice_get, slice_index_or, Option, Some, None, codes, ⊤}
 use Rattle.std.specs.List.{flat_map, join_with_byte}
 use Rattle.std.specs.Fmt.{decimal}
 use Rattle.graph_file.specs.declared.graph.Graph.{Graph}
-use Rattle.graph_file.specs.declared.graph.Node.{Node}
 use Rattle.graph_file.specs.Form.{FileForm, form_of}
 use Rattle.flow_program.specs.declared.evaluation.Cause.{Cause}
 use Rattle.flow_program.specs.declared.evaluation.Cause.TheVariants.{Division}

@@ -1,5 +1,5 @@
 -- The main graph is sound, as each graph of a job is, and each point has its entries.
-use Rattle.std.proofs.Common.{◌≡◌, ℕ, List, [], length, Some, ap, subst, ◌∙◌}
+use Rattle.std.proofs.Common.{ℕ, List, [], length, ap, subst, ◌∙◌}
 use Rattle.prime_field.specs.Modulus.{value_of}
 use Rattle.flow_program.specs.Evaluated.{no_graphs, outcome_of}
 use Rattle.flow_program.specs.GraphValue.{GraphMeans, main_number}
