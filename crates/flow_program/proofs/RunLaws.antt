@@ -1,5 +1,5 @@
 -- What a file that is read to a length over the limit says of the run's answer.
-use Rattle.std.proofs.Common.{◌≡◌, ℕ, ◌<◌, ◌≤◌, List, length, Option, Some, None, refl, sym, subst, MatchBool}
+use Rattle.std.proofs.Common.{Bool, ◌≡◌, ℕ, ◌<◌, ◌≤◌, List, length, Option, Some, None, refl, sym, subst, MatchBool}
 use Rattle.std.specs.Option.{ForSome}
 use Rattle.std.proofs.lemmas.Bool.{le-ltb, lt-ltb}
 use Rattle.flow_base.specs.Shelf.{ShelfView, Opens, TakesMore}
@@ -7,9 +7,8 @@ use Rattle.flow_program.specs.declared.TheConstants.{FILE_LIMIT}
 use Rattle.flow_program.specs.Words.{Request, Sample, asked}
 use Rattle.flow_program.specs.Answer.{Answer}
 use Rattle.prime_field.specs.Modulus.{value_of}
-use Rattle.prime_field.specs.declared.Modulus.TheVariants.{First}
-use Rattle.flow_program.specs.Sampled.{JobAnswer}
-use Rattle.flow_program.specs.Run.{RequestAnswer, long_answer}
+use Rattle.flow_program.specs.Sampled.{FileAnswer}
+use Rattle.flow_program.specs.Run.{RequestAnswer, long_answer, modulus_of}
 use Rattle.flow_program.specs.Outside.{MayStand, MayStandAsked, StandsSampled, IsRightAnswer}
 
 -- some bytes over the limit may stand under the name
@@ -24,19 +23,19 @@ pub long_file : (m : ℕ) (told : Option (Option (List ℕ))) (opened later : Sh
     → StandsSampled m told answer
 long_file m told opened later answer opens takes long same =
     let stands = stands_long told opened.rest takes.0 FILE_LIMIT opens takes.2 long in
-    (stands.0, stands.1, subst (λ b. MatchBool b (answer ≡ long_answer) (JobAnswer m stands.0 answer)) (sym (lt-ltb FILE_LIMIT (length stands.0) stands.2)) same)
+    (stands.0, stands.1, subst (λ b. MatchBool b (answer ≡ long_answer) (FileAnswer m stands.0 answer)) (sym (lt-ltb FILE_LIMIT (length stands.0) stands.2)) same)
 
 -- a file that is read whole has the answer of its bytes
-pub read_file : (m : ℕ) (told : Option (Option (List ℕ))) (opened : Option (List ℕ)) (bytes : List ℕ) (answer : Answer) → Opens told opened → ForSome opened (λ rest. bytes ≡ rest) → length bytes ≤ FILE_LIMIT → JobAnswer m bytes answer
+pub read_file : (m : ℕ) (told : Option (Option (List ℕ))) (opened : Option (List ℕ)) (bytes : List ℕ) (answer : Answer) → Opens told opened → ForSome opened (λ rest. bytes ≡ rest) → length bytes ≤ FILE_LIMIT → FileAnswer m bytes answer
     → StandsSampled m told answer
-read_file m None opened bytes answer opens whole fits right = (bytes, tt, subst (λ b. MatchBool b (answer ≡ long_answer) (JobAnswer m bytes answer)) (sym (le-ltb FILE_LIMIT (length bytes) fits)) right)
+read_file m None opened bytes answer opens whole fits right = (bytes, tt, subst (λ b. MatchBool b (answer ≡ long_answer) (FileAnswer m bytes answer)) (sym (le-ltb FILE_LIMIT (length bytes) fits)) right)
 read_file m (Some None) opened bytes answer opens whole fits right = absurd opens
 read_file m (Some (Some stood)) opened bytes answer opens whole fits right =
-    (bytes, sym (whole stood opens), subst (λ b. MatchBool b (answer ≡ long_answer) (JobAnswer m bytes answer)) (sym (le-ltb FILE_LIMIT (length bytes) fits)) right)
+    (bytes, sym (whole stood opens), subst (λ b. MatchBool b (answer ≡ long_answer) (FileAnswer m bytes answer)) (sym (le-ltb FILE_LIMIT (length bytes) fits)) right)
 
 -- what is told of a file that the words name is told of the words
-pub named_right : (words : List (List ℕ)) (shelf : ShelfView) (file : List ℕ) (answer : Answer) → asked words ≡ Some (Sample file) → StandsSampled (value_of First) (shelf.files file) answer → IsRightAnswer words shelf answer
-named_right words shelf file answer is stands = record {
+pub named_right : (words : List (List ℕ)) (shelf : ShelfView) (file : List ℕ) (second : Bool) (answer : Answer) → asked words ≡ Some (Sample file second) → StandsSampled (value_of (modulus_of second)) (shelf.files file) answer → IsRightAnswer words shelf answer
+named_right words shelf file second answer is stands = record {
   bytes = stands.0;
   stood = subst (λ (r : Option Request). MayStandAsked r shelf stands.0) (sym is) stands.1;
   right = subst (λ (r : Option Request). RequestAnswer r words stands.0 answer) (sym is) stands.2;

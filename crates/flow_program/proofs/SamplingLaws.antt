@@ -5,8 +5,9 @@ use Rattle.std.proofs.Math.Seq.{take-suc}
 use Rattle.std.proofs.lemmas.Grind.{flat_map-append}
 use Rattle.std.proofs.Common.{append-nil}
 use Rattle.graph_file.specs.declared.graph.Graph.{Graph}
-use Rattle.flow_program.specs.GraphValue.{Meaning, Outcome, GraphValue, main_number}
-use Rattle.flow_program.specs.Sampled.{AreOutcomes, SamplesTo, node_names, outcome_line, sampled}
+use Rattle.graph_eval.specs.GraphValue.{Meaning, Outcome, GraphValue, main_number}
+use Rattle.flow_program.specs.Sampled.{AddsPoint, AreOutcomes, SamplesTo, names_at, outcome_line, sampled}
+use Rattle.flow_program.specs.Refusals.{node_names}
 
 AreOutcomes-more : (meaning : Meaning) (points : List (List ℕ)) (outcomes : List Outcome) (point : List ℕ) (outcome : Outcome) → AreOutcomes meaning points outcomes → meaning point outcome → AreOutcomes meaning (points ++ point ∷ []) (outcomes ++ outcome ∷ [])
 AreOutcomes-more meaning [] [] point outcome are is = (is, tt)
@@ -19,17 +20,20 @@ pub SamplesTo-none : (m : ℕ) (graphs : List Graph) (points : List (List ℕ)) 
 SamplesTo-none m graphs points = record { outcomes = []; are_outcomes = tt; lines = refl }
 
 -- the next point has the next line
-pub SamplesTo-more : (m : ℕ) (graphs : List Graph) (all points : List (List ℕ)) (count : ℕ) (text more point : List ℕ) (graph : Graph) (outcome : Outcome)
-    → SamplesTo m graphs (take count points) text → all ≡ points → count < length all → point ≡ get_or all count point → slice_get graphs (main_number graphs) ≡ Some graph
-    → GraphValue m graphs [] (main_number graphs) point outcome → more ≡ text ++ outcome_line (node_names (Some graph)) outcome → SamplesTo m graphs (take (count + 1) points) more
-SamplesTo-more m graphs all points count text more point graph outcome so_far same below next is_main is joined =
+pub SamplesTo-more : (m : ℕ) (graphs : List Graph) (all points : List (List ℕ)) (count : ℕ) (text more point : List ℕ)
+    → SamplesTo m graphs (take count points) text → all ≡ points → count < length all → point ≡ get_or all count point → AddsPoint m graphs point text more → SamplesTo m graphs (take (count + 1) points) more
+SamplesTo-more m graphs all points count text more point so_far same below next adds =
     let meaning = GraphValue m graphs [] (main_number graphs) in
-    let line = outcome_line (node_names (Some graph)) outcome in
+    let lines_of = outcome_line (names_at (slice_get graphs (main_number graphs))) in
     let longer : take (count + 1) all ≡ take count all ++ point ∷ [] = ap (λ n. take n all) (add-one count) ∙ take-suc all count point below ∙ ap (λ p. take count all ++ p ∷ []) (sym next) in
     let longer_points : take (count + 1) points ≡ take count points ++ point ∷ [] = subst (λ (ps : List (List ℕ)). take (count + 1) ps ≡ take count ps ++ point ∷ []) same longer in
-    let line_is : line ≡ outcome_line (node_names (slice_get graphs (main_number graphs))) outcome = ap (λ g. outcome_line (node_names g) outcome) (sym is_main) in
     record {
-      outcomes = so_far.outcomes ++ outcome ∷ [];
-      are_outcomes = subst (λ (ps : List (List ℕ)). AreOutcomes meaning ps (so_far.outcomes ++ outcome ∷ [])) (sym longer_points) (AreOutcomes-more meaning (take count points) so_far.outcomes point outcome so_far.are_outcomes is);
-      lines = joined ∙ ap (λ t. t ++ line) so_far.lines ∙ ap (λ l. sampled graphs so_far.outcomes ++ l) (line_is ∙ sym (append-nil _)) ∙ sym (flat_map-append (outcome_line (node_names (slice_get graphs (main_number graphs)))) so_far.outcomes (outcome ∷ []));
+      outcomes = so_far.outcomes ++ adds.outcome ∷ [];
+      are_outcomes = subst (λ (ps : List (List ℕ)). AreOutcomes meaning ps (so_far.outcomes ++ adds.outcome ∷ [])) (sym longer_points) (AreOutcomes-more meaning (take count points) so_far.outcomes point adds.outcome so_far.are_outcomes adds.is);
+      lines = adds.joined ∙ ap (λ t. t ++ lines_of adds.outcome) so_far.lines ∙ ap (λ l. sampled graphs so_far.outcomes ++ l) (sym (append-nil (lines_of adds.outcome))) ∙ sym (flat_map-append lines_of so_far.outcomes (adds.outcome ∷ []));
     }
+
+-- the line of a graph that is the main one
+pub main_line : (m : ℕ) (graphs : List Graph) (graph : Graph) (outcome : Outcome) (point text more : List ℕ) → slice_get graphs (main_number graphs) ≡ Some graph → GraphValue m graphs [] (main_number graphs) point outcome
+    → more ≡ text ++ outcome_line (node_names graph) outcome → AddsPoint m graphs point text more
+main_line m graphs graph outcome point text more is_main is joined = record { outcome = outcome; is = is; joined = joined ∙ ap (λ g. text ++ outcome_line (names_at g) outcome) (sym is_main) }

@@ -1,8 +1,8 @@
 pub mod Answer
-pub mod Evaluated
-pub mod GraphValue
+pub mod Learning
 pub mod Outside
 pub mod Parsed
+pub mod Refusals
 pub mod Reply
 pub mod Run
 pub mod Sampled

@@ -29,7 +29,7 @@ StandsSampled m told answer = (bytes : List ℕ) × MayStand told bytes × Sampl
 -- bytes that may stand under the file that is asked for
 abbrev pub MayStandAsked : Option Request → ShelfView → List ℕ → Type 0
 MayStandAsked None shelf bytes = ⊤
-MayStandAsked (Some (Sample file)) shelf bytes = MayStand (shelf.files file) bytes
+MayStandAsked (Some (Sample file second)) shelf bytes = MayStand (shelf.files file) bytes
 
 -- the answer of the words and of the bytes that stood under the file that they name
 pub record IsRightAnswer (words : List (List ℕ)) (shelf : ShelfView) (answer : Answer) : Type 0 where
@@ -65,7 +65,7 @@ pub record TellsAnswerFront (words : List (List ℕ)) (old new : Outside) : Type
 -- the shelf's count of the file that is asked for rose
 abbrev pub FileRose : Option Request → ShelfView → ShelfView → Type 0
 FileRose None old new = ⊥
-FileRose (Some (Sample file)) old new = Rose (old.faults file) (new.faults file)
+FileRose (Some (Sample file second)) old new = Rose (old.faults file) (new.faults file)
 
 abbrev pub SinkRose : Outside → Outside → Type 0
 SinkRose old new = Rose old.out.faults new.out.faults ⊎ Rose old.err.faults new.err.faults

@@ -1,12 +1,13 @@
 -- The number with which a run ends.
 use Rattle.std.specs.Prelude.{ℕ}
 use Rattle.flow_program.specs.declared.status.Status.{Status}
-use Rattle.flow_program.specs.declared.status.Status.TheVariants.{Done, BadWords, BadFile, ReadFault, WriteFault, NoMemory}
+use Rattle.flow_program.specs.declared.status.Status.TheVariants.{Done, BadWords, BadFile, NotLearned, ReadFault, WriteFault, NoMemory}
 
 abbrev pub code_of : Status → ℕ
 code_of Done = 0
 code_of BadWords = 2
 code_of BadFile = 3
+code_of NotLearned = 4
 code_of ReadFault = 6
 code_of WriteFault = 7
 code_of NoMemory = 8

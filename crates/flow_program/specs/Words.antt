@@ -1,5 +1,6 @@
 -- What the words after the program's name ask for, and where they go wrong.
-use Rattle.std.specs.Prelude.{◌≡◌, ℕ, ◌+◌, ◌<◌, ◌≤◌, ◌==◌, ◌&&◌, ◌||◌, not, Bool, false, List, [], ◌∷◌, ◌++◌, length, take, Option, Some, None, codes, bytes_eq, if◌then◌else◌, map, string_bytes}
+use Rattle.std.specs.Prelude.{◌≡◌, ℕ, ◌+◌, ◌<◌, ◌≤◌, ◌==◌, ◌||◌, nat_le, count_by, filter, option_map, not, Bool, false, List, [], ◌∷◌, ◌++◌, length, take, Option, Some, None, codes, bytes_eq, if◌then◌else◌, map, string_bytes}
+use Rattle.std.specs.List.{list_any}
 use Rattle.std.specs.declared.string.String.{String}
 use Rattle.std.specs.declared.alloc.Global.{Global}
 use Rattle.flow_program.specs.declared.words.Command.{Command}
@@ -9,13 +10,13 @@ use Rattle.flow_program.specs.declared.words.Command.TheVariants as command
 abbrev pub texts : List (String Global) → List (List ℕ)
 texts words = map string_bytes words
 
--- what the program can be asked to do, with names as their bytes
+-- what the program can be asked to do, with names as their bytes: to sample a file, or with true at the second modulus
 pub data Request : Type 0 where
-  Sample : (file : List ℕ) → Request
+  Sample : (file : List ℕ) (second : Bool) → Request
 
 -- what a command asks for
 abbrev pub request : Command → Request
-request (command.Sample file) = Sample (string_bytes file)
+request (command.Sample file second) = Sample (string_bytes file) second
 
 -- the word isn't empty and doesn't begin with a dash
 abbrev pub begins_with_no_dash : List ℕ → Bool
@@ -26,12 +27,24 @@ begins_with_no_dash (byte ∷ rest) = not (byte == 45)
 abbrev pub is_file : List ℕ → Bool
 is_file word = bytes_eq word (codes "-") || begins_with_no_dash word
 
--- what the words ask for, where the grammar admits them: `sample` and a file
+-- the option that asks for the second modulus
+abbrev pub is_second : List ℕ → Bool
+is_second word = bytes_eq word (codes "--second")
+
+-- the file among the words that are no option, where there is one and nothing else
+abbrev pub one_file : List (List ℕ) → Option (List ℕ)
+one_file [] = None
+one_file (file ∷ []) = if is_file file then Some file else None
+one_file (file ∷ more ∷ rest) = None
+
+-- what the words behind `sample` ask for: a file and at most one `--second`, in any order
+abbrev pub asked_sample : List (List ℕ) → Option Request
+asked_sample rest = if nat_le (count_by is_second rest) 1 then option_map (λ file. Sample file (list_any is_second rest)) (one_file (filter (λ word. not (is_second word)) rest)) else None
+
+-- what the words ask for, where the grammar admits them
 abbrev pub asked : List (List ℕ) → Option Request
-asked (word ∷ file ∷ []) = if bytes_eq word (codes "sample") && is_file file then Some (Sample file) else None
 asked [] = None
-asked (word ∷ []) = None
-asked (word ∷ file ∷ more ∷ rest) = None
+asked (word ∷ rest) = if bytes_eq word (codes "sample") then asked_sample rest else None
 
 -- some admitted words begin with these
 abbrev pub IsFront : List (List ℕ) → Type 0

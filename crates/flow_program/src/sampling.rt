@@ -1,15 +1,17 @@
 //! The lines of a sampling.
 
-ghost use Rattle.std.specs.Prelude.{◌≡◌, ◌++◌, ◌∷◌, [], ℕ, List, Some, OnOk, IfOk, map, slice_get, slice_index_or};
+ghost use Rattle.std.specs.Prelude.{◌≡◌, ◌++◌, ℕ, List, Some, OnOk, IfOk, slice_get, length};
 ghost use Rattle.prime_field.specs.Modulus.{value_of};
-ghost use Rattle.graph_file.specs.declared.graph.Graph.{Graph};
-ghost use Rattle.flow_program.specs.Evaluated.{outcome_of};
-ghost use Rattle.flow_program.specs.GraphValue.{main_number};
-ghost use Rattle.flow_program.specs.Sampled.{SamplesTo, cause_word, node_names, outcome_line, singular_words};
+ghost use Rattle.graph_eval.specs.Evaluated.{HasInputs, outcome_of};
+ghost use Rattle.graph_eval.specs.GraphValue.{main_number};
+ghost use Rattle.graph_eval.specs.Learned.{Fits, outputs_of};
+ghost use Rattle.flow_program.specs.Refusals.{node_names};
+ghost use Rattle.flow_program.specs.Sampled.{AddsPoint, SamplesTo, cause_word, outcome_line, singular_words};
 
-use crate::evaluation::{Cause, Outcome, Singular, evaluate, main_graph};
 use crate::printed::push_residues;
+use graph_eval::{Cause, Learned, Outcome, Singular, Worker, main_graph};
 use graph_file::{Graph, Job};
+use poly_maps::Point;
 use prime_field::Modulus;
 use std::alloc::{AllocError, Global};
 
@@ -24,7 +26,7 @@ fn word_of(cause: Cause) -> &'static [u8]
 
 /// Writes the node that has no value and the cause behind the text.
 fn push_singular(text: &mut Vec<u8>, graph: &Graph, singular: Singular) -> Result<(), AllocError>
-    ensures { OnOk result (text.new.items ≡ text.old.items ++ singular_words (node_names (Some graph.now)) singular.node singular.cause) }
+    ensures { OnOk result (text.new.items ≡ text.old.items ++ singular_words (node_names graph.now) singular.node singular.cause) }
 {
     text.extend_from_slice(b"singular ")?;
     if let Some(node) = graph.nodes.as_slice().get(singular.node as usize) {
@@ -35,27 +37,70 @@ fn push_singular(text: &mut Vec<u8>, graph: &Graph, singular: Singular) -> Resul
     Ok(())
 }
 
-/// Writes the line of one outcome behind the text.
-fn push_outcome(text: &mut Vec<u8>, graph: &Graph, outcome: &Outcome) -> Result<(), AllocError>
-    ensures { OnOk result (text.new.items ≡ text.old.items ++ outcome_line (node_names (Some graph.now)) (outcome_of outcome.now)) }
+/// Writes the line of one outcome, whose values are `values` where it is defined, behind the text.
+fn push_outcome(
+    text: &mut Vec<u8>,
+    graph: &Graph,
+    outcome: Outcome,
+    values: &[u64],
+) -> Result<(), AllocError>
+    ensures { OnOk result (text.new.items ≡ text.old.items ++ outcome_line (node_names graph.now) (outcome_of values.now outcome)) }
 {
     match outcome {
-        Outcome::Defined(values) => push_residues(text, values.as_slice())?,
-        Outcome::Singular(singular) => push_singular(text, graph, *singular)?,
+        Outcome::Defined => push_residues(text, values)?,
+        Outcome::Singular(singular) => push_singular(text, graph, singular)?,
     }
     text.push(b'\n')?;
     Ok(())
 }
 
-/// The lines of the outcomes of the main graph at the job's points, in order.
-pub(crate) fn sample(alloc: Global, job: &Job, modulus: Modulus) -> Result<Vec<u8>, AllocError>
-    ensures { IfOk result (λ text. SamplesTo (value_of modulus) job.now.graphs job.now.points text.items) }
+/// Writes the line of what the main graph gives at a point behind the text. The values are written to `values`, which
+/// has a place for each entry of the output.
+fn push_point(
+    alloc: Global,
+    text: &mut Vec<u8>,
+    worker: &mut Worker,
+    job: &Job,
+    learned: &Learned,
+    modulus: Modulus,
+    point: &Point,
+    values: &mut [u64],
+) -> Result<(), AllocError>
+    requires fits { Fits job.now.graphs learned.now }
+    requires entries { HasInputs (slice_get job.now.graphs (main_number job.now.graphs)) point.now }
+    requires room { length values.old ≡ outputs_of learned.now }
+    ensures { OnOk result (AddsPoint (value_of modulus) job.now.graphs point.now text.old.items text.new.items) }
 {
     let graph = main_graph(job);
+    let outcome = worker.eval_point(alloc, job, learned, modulus, point, values)?;
+    push_outcome(text, graph, outcome, values)?;
+    Ok(())
+}
+
+/// The lines of the outcomes of the main graph at the job's points, in order.
+pub(crate) fn sample(
+    alloc: Global,
+    job: &Job,
+    learned: &Learned,
+    modulus: Modulus,
+) -> Result<Vec<u8>, AllocError>
+    requires { Fits job.now.graphs learned.now }
+    ensures { IfOk result (λ text. SamplesTo (value_of modulus) job.now.graphs job.now.points text.items) }
+{
+    let mut worker = Worker::new(alloc, job, learned)?;
+    let mut values = vec![in alloc; 0; learned.outputs()]?;
     let mut text = Vec::new(alloc);
     for point in job.points.as_slice() {
-        let outcome = evaluate(alloc, job, modulus, point)?;
-        push_outcome(&mut text, graph, &outcome)?;
+        push_point(
+            alloc,
+            &mut text,
+            &mut worker,
+            job,
+            learned,
+            modulus,
+            point,
+            &mut values,
+        )?;
     }
     Ok(text)
 }

@@ -9,8 +9,10 @@ pub enum Status {
     Done,
     /// The words ask for nothing.
     BadWords,
-    /// The file is too long, or is no job.
+    /// The file is too long, or has a bad line.
     BadFile,
+    /// A length rule fails.
+    NotLearned,
     /// The file can't be read.
     ReadFault,
     /// Something written was not taken.
@@ -30,6 +32,7 @@ impl Status {
             Status::Done => 0,
             Status::BadWords => 2,
             Status::BadFile => 3,
+            Status::NotLearned => 4,
             Status::ReadFault => 6,
             Status::WriteFault => 7,
             Status::NoMemory => 8,

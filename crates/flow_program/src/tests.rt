@@ -2,7 +2,7 @@
 
 use crate::top::run;
 use flow_base::{MemShelf, MemSink};
-use std::alloc::Global;
+use std::alloc::{AllocError, Global};
 use std::test::Fail;
 
 /// Two variables, one node of two quotients, one point.
@@ -127,27 +127,127 @@ fn a_missing_file_and_a_failing_read_are_read_faults(rt: HostRuntime) -> Result<
     Ok(())
 }
 
+/// A file of two variables with the node `a` and one more node, which is the output, at the point 3 5.
+fn with_node(alloc: Global, node: &str) -> Result<String, AllocError> {
+    format!(in alloc;
+        "flow 1\ngraph main\ninput x y\nnode a eval input = x ; y ; x*y ; 2\nnode b {node}\noutput b\npoint 3 5\n"
+    )
+}
+
 #[test]
-fn other_files_are_refused(rt: HostRuntime) -> Result<(), Fail> {
-    let second_point =
-        "flow 1\ngraph main\ninput x y\nnode r eval input = x/(x+y) ; 1/y\noutput r\npoint 1 2\npoint 1 2\n";
-    let product =
-        "flow 1\ngraph main\ninput x y\nnode r eval input = x/(x+y) ; x*y\noutput r\npoint 1 2\n";
-    let cut = "flow 1\ngraph main\ninput x y\nnode r eval input = x/(x+y) ; 1/y\noutput r\n";
-    for file in [second_point, product, cut, "", "\u{e9}"] {
+fn each_kind_of_node_gives_its_list(rt: HostRuntime) -> Result<(), Fail> {
+    let cases = [
+        ("eval a = z1 + z4 ; z3^2", "5 225\n"),
+        ("eval input = -x^2 + 2*(y-1)", "2305843009213693950\n"),
+        ("take a 3 input 1", "15 3\n"),
+        ("slice a 2 3", "5 15\n"),
+        ("chain input a", "3 5 3 5 15 2\n"),
+        ("sum a a", "6 10 30 4\n"),
+        ("product a a", "9 25 225 4\n"),
+        ("matmul a a 2 2 2", "84 25 75 79\n"),
+    ];
+    for (node, out) in cases {
+        let file = with_node(rt.alloc(), node)?;
         let told = run_on(rt.alloc(), &["sample", "f"], steady(file.as_bytes()))?;
+        assert!(rt; is_told(&told, 0, out, ""), "{node}: {told:?}");
+    }
+    Ok(())
+}
+
+#[test]
+fn the_second_modulus_is_asked_for(rt: HostRuntime) -> Result<(), Fail> {
+    let cases: [&[&str]; 2] = [&["sample", "f", "--second"], &["sample", "--second", "f"]];
+    for words in cases {
+        let told = run_on(rt.alloc(), words, steady(QUOTIENTS.as_bytes()))?;
         assert!(rt;
-            is_told(&told, 3, "", "flow: bad file\n"),
-            "{file:?}: {told:?}"
+            is_told(&told, 0, "6148914691236517189 4611686018427387892\n", ""),
+            "{words:?}: {told:?}"
         );
     }
     Ok(())
 }
 
 #[test]
+fn what_the_output_does_not_rest_on_is_left_out(rt: HostRuntime) -> Result<(), Fail> {
+    let unneeded =
+        "flow 1\ngraph main\ninput x y\nnode r eval input = x/(x+y) ; 1/y\nnode u eval input = 1/0\noutput r\npoint 1 2\n";
+    let told = run_on(rt.alloc(), &["sample", "f"], steady(unneeded.as_bytes()))?;
+    assert!(rt; is_told(&told, 0, RESIDUES, ""), "{told:?}");
+    let input =
+        "flow 1\ngraph main\ninput x y\nnode r eval input = 1/0\noutput input\npoint 1 2\npoint 3 4\n";
+    let told = run_on(rt.alloc(), &["sample", "f"], steady(input.as_bytes()))?;
+    assert!(rt; is_told(&told, 0, "1 2\n3 4\n", ""), "{told:?}");
+    Ok(())
+}
+
+#[test]
+fn the_first_bad_line_is_told_with_its_kind(rt: HostRuntime) -> Result<(), Fail> {
+    let cases = [
+        ("", "flow: line 1: syntax\n"),
+        ("flow 3\n", "flow: line 1: version\n"),
+        (
+            "flow 1\n\n# comment\ngraph main\ninput x x\n",
+            "flow: line 5: repeated\n",
+        ),
+        (
+            "flow 1\ngraph main\ninput x y\nnode t take a 3\n",
+            "flow: line 4: unknown node\n",
+        ),
+        (
+            "flow 1\ngraph main\ninput x y\nnode t take input 0\n",
+            "flow: line 4: limit\n",
+        ),
+        (
+            "flow 1\ngraph main\ninput x y\nnode r eval input = x/(x+y) ; 1/w\n",
+            "flow: line 4: expression 2 place 3: unknown name\n",
+        ),
+        (
+            "flow 1\ngraph main\ninput x y\nnode r eval input =\n",
+            "flow: line 4: expression 1 place 0: unexpected\n",
+        ),
+        (
+            "flow 1\ngraph main\ninput x y\nnode r eval input = x^65536\n",
+            "flow: line 4: expression 1 place 3: wide number\n",
+        ),
+        (
+            "flow 1\ngraph main\ninput x y\nnode r eval input = x/(x+y)\n",
+            "flow: line 5: missing\n",
+        ),
+        (
+            "flow 1\ngraph main\ninput x y\noutput input\npoint 1 2305843009213693951\n",
+            "flow: line 5: residue\n",
+        ),
+        (
+            "flow 1\ngraph main\ninput x y\noutput input\npoint 1\n",
+            "flow: line 5: syntax\n",
+        ),
+        (
+            "flow 1\ngraph main\ninput x y\noutput input\npoint 1 \u{e9}\n",
+            "flow: line 5: syntax\n",
+        ),
+    ];
+    for (file, err) in cases {
+        let told = run_on(rt.alloc(), &["sample", "f"], steady(file.as_bytes()))?;
+        assert!(rt; is_told(&told, 3, "", err), "{file:?}: {told:?}");
+    }
+    Ok(())
+}
+
+#[test]
+fn lists_of_wrong_lengths_are_refused(rt: HostRuntime) -> Result<(), Fail> {
+    let past = "flow 1\ngraph main\ninput x y\nnode t take input 3\noutput t\npoint 1 2\n";
+    let told = run_on(rt.alloc(), &["sample", "f"], steady(past.as_bytes()))?;
+    assert!(rt;
+        is_told(&told, 4, "", "flow: graph main node t length\n"),
+        "{told:?}"
+    );
+    Ok(())
+}
+
+#[test]
 fn words_that_ask_for_nothing_are_refused_with_their_place(rt: HostRuntime) -> Result<(), Fail> {
     let none: &[&str] = &[];
-    let cases: [(&[&str], &str); 9] = [
+    let cases: [(&[&str], &str); 10] = [
         (none, "1"),
         (&["sample"], "2"),
         (&["sample", "a", "b"], "3"),
@@ -157,6 +257,7 @@ fn words_that_ask_for_nothing_are_refused_with_their_place(rt: HostRuntime) -> R
         (&["--help"], "1"),
         (&["sample", "-f"], "2"),
         (&["sample", "-", "-"], "3"),
+        (&["sample", "--second", "f", "--second"], "4"),
     ];
     for (words, place) in cases {
         let told = run_on(rt.alloc(), words, steady(QUOTIENTS.as_bytes()))?;
@@ -177,5 +278,62 @@ fn a_file_is_long_from_16777217_bytes_on(rt: HostRuntime) -> Result<(), Fail> {
     file.push(b'#')?;
     let long = run_on(rt.alloc(), &["sample", "f"], steady(file.as_slice()))?;
     assert!(rt; is_told(&long, 3, "", "flow: file too long\n"), "{long:?}");
+    Ok(())
+}
+
+/// A file of two variables with so many points, whose output is its input.
+fn with_points(alloc: Global, count: usize) -> Result<String, AllocError> {
+    let mut file = String::from_str(alloc, "flow 1\ngraph main\ninput x y\noutput input\n")?;
+    for _ in 0..count {
+        file.push_str("point 1 2\n")?;
+    }
+    Ok(file)
+}
+
+/// A file of one variable with so many nodes and one point, whose output is its input.
+fn with_nodes(alloc: Global, count: usize) -> Result<String, AllocError> {
+    let mut file = String::from_str(alloc, "flow 1\ngraph main\ninput x\n")?;
+    for number in 0..count {
+        let line = format!(in alloc; "node n{number} eval input = x\n")?;
+        file.push_str(line.as_str())?;
+    }
+    file.push_str("output input\npoint 7\n")?;
+    Ok(file)
+}
+
+#[test]
+fn points_and_nodes_have_their_limits(rt: HostRuntime) -> Result<(), Fail> {
+    let alloc = rt.alloc();
+    let points = run_on(
+        alloc,
+        &["sample", "f"],
+        steady(with_points(alloc, 65_536)?.as_bytes()),
+    )?;
+    assert_eq!(rt; points.status, 0);
+    assert_eq!(rt; points.out.len(), 4 * 65_536);
+    let past = run_on(
+        alloc,
+        &["sample", "f"],
+        steady(with_points(alloc, 65_537)?.as_bytes()),
+    )?;
+    assert!(rt;
+        is_told(&past, 3, "", "flow: line 65541: limit\n"),
+        "{past:?}"
+    );
+    let nodes = run_on(
+        alloc,
+        &["sample", "f"],
+        steady(with_nodes(alloc, 4096)?.as_bytes()),
+    )?;
+    assert!(rt; is_told(&nodes, 0, "7\n", ""), "{nodes:?}");
+    let past = run_on(
+        alloc,
+        &["sample", "f"],
+        steady(with_nodes(alloc, 4097)?.as_bytes()),
+    )?;
+    assert!(rt;
+        is_told(&past, 3, "", "flow: line 4100: limit\n"),
+        "{past:?}"
+    );
     Ok(())
 }

@@ -1,10 +1,11 @@
 //! The one call that the program makes.
 
-ghost use Rattle.std.specs.Prelude.{◌≡◌, ◌≢◌, ◌≤◌, ◌⊎◌, ◌↔◌, ℕ, List, Some, None, IfOk, OnOk, OnErr, IsErrOf, codes};
+ghost use Rattle.std.specs.Prelude.{Bool, ◌≡◌, ◌≢◌, ◌≤◌, ◌⊎◌, ◌↔◌, ℕ, List, Some, None, IfOk, OnOk, OnErr, IsErrOf, codes};
 ghost use Rattle.flow_base.specs.Counts.{Rose};
 ghost use Rattle.flow_base.specs.Sink.{Adds, AddsFront};
 ghost use Rattle.prime_field.specs.Modulus.{value_of};
 ghost use Rattle.flow_program.specs.Reply.{answer_of};
+ghost use Rattle.flow_program.specs.Run;
 ghost use Rattle.flow_program.specs.Status.{code_of};
 ghost use Rattle.flow_program.specs.Words.{Sample, asked, texts};
 ghost use Rattle.flow_program.specs.Outside.{BreaksOff, FileRose, IsRightAnswer, SinkRose, StandsSampled, Tells, TellsOnly, outside};
@@ -58,6 +59,17 @@ fn sample_file<H: Shelf>(
     }
 }
 
+/// The modulus that is asked for.
+fn modulus_of(second: bool) -> Modulus
+    ensures { result ≡ Run.modulus_of second }
+{
+    if second {
+        Modulus::Second
+    } else {
+        Modulus::First
+    }
+}
+
 /// Works out all that is to be told; nothing is written.
 #[tactic(auto, using(crate::proofs::RunLaws::named_right))]
 fn work_out<H: Shelf>(alloc: Global, words: &[String], shelf: &mut H) -> Result<Reply, Trouble>
@@ -66,10 +78,10 @@ fn work_out<H: Shelf>(alloc: Global, words: &[String], shelf: &mut H) -> Result<
     ensures failed { IsErrOf result Trouble.ReadFault → FileRose (asked (texts words.now)) (H.view shelf.old) (H.view shelf.new) }
 {
     match read_words(alloc, words) {
-        Ok(Command::Sample { file }) => Ok(sample_file(
+        Ok(Command::Sample { file, second }) => Ok(sample_file(
             alloc,
             file.as_str(),
-            Modulus::First,
+            modulus_of(second),
             shelf,
         )?),
         Err(WordsError::Bad { word }) => Ok(reply_to_words(alloc, word)?),
@@ -116,7 +128,7 @@ pub fn run<H: Shelf, O: Sink, E: Sink>(
     // Where no device failed, only memory may have been wanting.
     ensures completes { (FileRose (asked (texts words.now)) (H.view shelf.old) (H.view shelf.new) → ⊥) → (Rose (O.view out.old).faults (O.view out.new).faults → ⊥) → (Rose (E.view err.old).faults (E.view err.new).faults → ⊥) → (code_of result ≤ 5) ⊎ (result ≡ Status.NoMemory) }
     // Where nothing stands under the file that is asked for, there is no answer.
-    ensures missing { (file : List ℕ) → asked (texts words.now) ≡ Some (Sample file) → (H.view shelf.old).files file ≡ Some None → 6 ≤ code_of result }
+    ensures missing { (file : List ℕ) (second : Bool) → asked (texts words.now) ≡ Some (Sample file second) → (H.view shelf.old).files file ≡ Some None → 6 ≤ code_of result }
     // Status 2 comes exactly with words that ask for nothing.
     ensures bad_words { result ≡ Status.BadWords → asked (texts words.now) ≡ None }
     // Status 6 comes only where the file's count rose; out gets nothing.

@@ -1,8 +1,8 @@
 //! The words after the program's name.
 
-ghost use Rattle.std.specs.Prelude.{◌≡◌, ℕ, IfOk, IsTrue};
+ghost use Rattle.std.specs.Prelude.{◌≡◌, ◌<◌, ◌-◌, ℕ, None, false, length, IfOk};
 ghost use Rattle.flow_program.specs.Words.{IsBadAt, asked, is_file, request, texts};
-ghost use Rattle.flow_program.specs.Parsed.{Reads};
+ghost use Rattle.flow_program.specs.Parsed.{Reads, parsed, parsed_from};
 
 use std::alloc::{AllocError, Global};
 use thiserror::Error;
@@ -10,8 +10,8 @@ use thiserror::Error;
 /// What the program is asked to do.
 #[derive(Debug, Drop)]
 pub enum Command {
-    /// Evaluates the main graph of the file at each of its points, modulo the first modulus.
-    Sample { file: String },
+    /// Evaluates the main graph of the file at each of its points, modulo the first modulus, or the second one.
+    Sample { file: String, second: bool },
 }
 
 /// Why words ask for nothing.
@@ -41,18 +41,41 @@ fn is_file_name(word: &str) -> bool
     word == "-" || !(word.is_empty() || word.starts_with("-"))
 }
 
+/// What the words behind `sample` ask for.
+fn parse_sample(alloc: Global, words: &[String]) -> Result<Command, WordsError>
+    requires { length words.now < usize.MAX - 2 }
+    ensures { Reads result (parsed_from 2 None false (texts words.now)) }
+{
+    let mut file: Option<&str> = None;
+    let mut second = false;
+    for (index, word) in words.iter().enumerate() {
+        let place = index + 2;
+        if word.as_str() == "--second" {
+            if second {
+                return Err(WordsError::Bad { word: place });
+            }
+            second = true;
+        } else if is_file_name(word.as_str()) && file.is_none() {
+            file = Some(word.as_str());
+        } else {
+            return Err(WordsError::Bad { word: place });
+        }
+    }
+    let Some(file) = file else {
+        return Err(WordsError::Bad {
+            word: words.len() + 2,
+        });
+    };
+    let file = String::from_str(alloc, file)?;
+    Ok(Command::Sample { file, second })
+}
+
 fn parse_words(alloc: Global, words: &[String]) -> Result<Command, WordsError>
-    ensures { Reads result (texts words.now) }
+    ensures { Reads result (parsed (texts words.now)) }
 {
     match words {
-        [] => Err(WordsError::Bad { word: 1 }),
-        [word, ..] if word.as_str() != "sample" => Err(WordsError::Bad { word: 1 }),
-        [_, file, ..] if !is_file_name(file.as_str()) => Err(WordsError::Bad { word: 2 }),
-        [_] => Err(WordsError::Bad { word: 2 }),
-        [_, file] => Ok(Command::Sample {
-            file: String::from_str(alloc, file.as_str())?,
-        }),
-        [_, _, ..] => Err(WordsError::Bad { word: 3 }),
+        [word, rest @ ..] if word.as_str() == "sample" => Ok(parse_sample(alloc, rest)?),
+        _ => Err(WordsError::Bad { word: 1 }),
     }
 }
 

@@ -1,14 +1,13 @@
 -- Answers that are gathered one after the other.
 use Rattle.std.proofs.Common.{◌≡◌, ◌<◌, ◌+◌, ℕ, refl, sym, ap, ◌∙◌, List, [], ◌∷◌, ◌++◌, length, map, drop, Option, Some, None, append_assoc, append-nil, add-one, option_map}
 use Rattle.std.proofs.Math.Seq.{drop-cons}
-use Rattle.graph_file.specs.Form.{all_of}
+use Rattle.graph_file.specs.Line.{all_of}
 
 -- the answers so far with those behind them, where all of these are there
 abbrev pub onto : {A : Type 0} → List A → Option (List A) → Option (List A)
 onto front later = option_map (λ answers. front ++ answers) later
 
--- an answer in front of those behind stands behind those so far
-onto-cons : {A : Type 0} (front : List A) (a : A) (later : Option (List A)) → onto front (option_map (λ answers. a ∷ answers) later) ≡ onto (front ++ a ∷ []) later
+pub onto-cons : {A : Type 0} (front : List A) (a : A) (later : Option (List A)) → onto front (option_map (λ answers. a ∷ answers) later) ≡ onto (front ++ a ∷ []) later
 onto-cons front a None = refl
 onto-cons front a (Some answers) = ap (λ l. Some l) (sym (append_assoc front (a ∷ []) answers))
 

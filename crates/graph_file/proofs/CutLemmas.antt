@@ -13,7 +13,6 @@ use Rattle.graph_file.specs.Lines.{after_word, from_blank}
 pub take-drop : (i : ℕ) (xs : List ℕ) → take (length xs - i) (drop i xs) ≡ drop i xs
 take-drop i xs = rw (← length-drop i xs) (take-length (drop i xs))
 
--- the place of the first element that passes, or the length where there is none
 from_test : (b : Bool) (n m : ℕ) → nat_lt n m ≡ b → n ≤ m → unwrap_or (cond b (Some n) None) m ≡ n
 from_test true n m test within = refl
 from_test false n m test within = grind (arith, nat_tests)
@@ -21,7 +20,6 @@ from_test false n m test within = grind (arith, nat_tests)
 pub unwrap_or-position : (p : ℕ → Bool) (xs : List ℕ) → unwrap_or (position p xs) (length xs) ≡ position_or_len p xs
 unwrap_or-position p xs = from_test _ (position_or_len p xs) (length xs) refl (prefix_len-le-length _ xs)
 
--- a place that is there is the first one, and within the list
 place_from : (b : Bool) (n m k : ℕ) → nat_lt n m ≡ b → cond b (Some n) None ≡ Some k → (k ≡ n) × (n < m)
 place_from true n m k test found = (cc, grind (arith, nat_tests))
 place_from false n m k test found = cc
@@ -34,19 +32,16 @@ no_place_from : (b : Bool) (n m : ℕ) → nat_lt n m ≡ b → n ≤ m → cond
 no_place_from true n m test within none = cc
 no_place_from false n m test within none = grind (arith, nat_tests)
 
--- without a place the list is one piece
 pub slice_split-no_place : (p : ℕ → Bool) (xs : List ℕ) → position p xs ≡ None → slice_split p xs ≡ xs ∷ []
 slice_split-no_place p xs none =
     let whole : position_or_len p xs ≡ length xs = no_place_from _ _ _ refl (prefix_len-le-length _ xs) none in
     slice_split_none p xs (λ k d within. fails_before_first p xs k d (rw whole within))
 
--- a place ends the first piece
 pub slice_split-place : (p : ℕ → Bool) (xs : List ℕ) (k : ℕ) → position p xs ≡ Some k → slice_split p xs ≡ take k xs ∷ slice_split p (drop (k + 1) xs)
 slice_split-place p xs k found =
     let at : (k ≡ position_or_len p xs) × (position_or_len p xs < length xs) = place p xs k found in
     rw at.0 (slice_split_first p xs 0 at.1)
 
--- what stands behind a place is shorter
 pub size_behind-place : (p : ℕ → Bool) (xs : List ℕ) (k : ℕ) → position p xs ≡ Some k → length (take (length xs - (k + 1)) (drop (k + 1) xs)) + 1 ≤ length xs
 size_behind-place p xs k found =
     let at : (k ≡ position_or_len p xs) × (position_or_len p xs < length xs) = place p xs k found in

@@ -1,9 +1,16 @@
 mod AllOf
+mod Capped
 mod CutLemmas
-mod Entries
-mod FormLemmas
-pub mod FormSound
-mod KeptLemmas
-mod NameLemmas
-mod Pieces
-mod PointLemmas
+mod ExprLemmas
+mod Formed
+mod MarkLemmas
+mod PartLemmas
+mod TableLemmas
+mod SoundLemmas
+mod Passes
+mod KindLemmas
+mod TakeLemmas
+mod FileLemmas
+mod JobLemmas
+mod OneForm
+pub mod Needs

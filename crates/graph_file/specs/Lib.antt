@@ -1,6 +1,14 @@
 pub mod Cut
-pub mod Form
-pub mod Job
+pub mod Faults
+pub mod File
+pub mod Formed
+pub mod Line
 pub mod Lines
-pub mod Point
+pub mod Marks
+pub mod Needed
+pub mod Parsed
+pub mod Read
+pub mod Reader
+pub mod Says
 pub mod Sound
+pub mod Table

@@ -9,11 +9,44 @@ pub enum Source {
     Node(u32),
 }
 
-/// What a node computes.
+/// What a node computes. Positions in lists are counted from 1.
 #[derive(Drop)]
 pub enum NodeKind {
     /// The values of expressions in the entries of one list.
-    Eval { from: Source, exprs: Items<Expr> },
+    Eval {
+        from: Source,
+        exprs: Items<Expr>,
+    },
+    /// Entries of lists, each given by a list and a position.
+    Take {
+        parts: Items<(Source, u32)>,
+    },
+    /// The entries of a list from a first to a last position.
+    Slice {
+        from: Source,
+        first: u32,
+        last: u32,
+    },
+    /// Lists one after the other.
+    Chain {
+        parts: Items<Source>,
+    },
+    /// The sums of the entries at each position.
+    Sum {
+        parts: Items<Source>,
+    },
+    /// The products of the entries at each position.
+    Product {
+        parts: Items<Source>,
+    },
+    /// The product of a matrix of `rows` by `mid` entries and one of `mid` by `cols`, row by row.
+    Matmul {
+        left: Source,
+        right: Source,
+        rows: u32,
+        mid: u32,
+        cols: u32,
+    },
 }
 
 /// A node of a graph.

@@ -1,7 +1,7 @@
 ghost use Rattle.graph_file.specs.Sound.{IsJob};
 
 use crate::graph::Graph;
-use crate::point::Point;
+use poly_maps::Point;
 use sqlite_items::Items;
 
 /// What the file is read for.

@@ -2,20 +2,27 @@
 #![tactic(auto)]
 
 mod error;
-mod form;
+mod exprs;
+mod faults;
 mod graph;
 mod job;
+mod kind;
+mod laws;
+mod line;
 mod lines;
-mod names;
-mod node;
+mod needed;
 mod numbers;
-mod point;
+mod patterns;
 mod read;
+mod reader;
+mod steps;
+mod table;
+mod take_in;
 #[cfg(test)]
 mod tests;
 
 pub use error::{FileError, FileKind};
 pub use graph::{Graph, Node, NodeKind, Source};
 pub use job::{Job, Need};
-pub use point::Point;
+pub use laws::{no_fault, one_fault, one_form};
 pub use read::read_graphs;

@@ -8,11 +8,8 @@ ghost use Rattle.ratfun_text.specs.Bytes as spec_bytes;
 use ratfun_text::bytes::{is_blank, trim};
 use std::alloc::{AllocError, Global};
 
-/// How many lines a file has beside those that are passed over.
-pub const LINES: usize = 6;
-
 /// Whether the line has blanks alone, or `#` as its first byte that is no blank.
-fn is_passed_over(line: &[u8]) -> bool
+pub fn is_passed_over(line: &[u8]) -> bool
     ensures { result ≡ spec.is_passed_over line.now }
 {
     match trim(line) {
@@ -22,18 +19,11 @@ fn is_passed_over(line: &[u8]) -> bool
 }
 
 /// Whether each byte of the line may stand in a line that counts.
-fn is_plain(line: &[u8]) -> bool
+pub fn is_plain(line: &[u8]) -> bool
     ensures { result ≡ spec.is_plain line.now }
 {
     line.iter()
         .all(|byte| is_blank(*byte) || (b' ' < *byte && *byte < 0x7f))
-}
-
-/// Whether each byte of these lines may stand in a line that counts.
-pub fn are_plain(lines: &[&[u8]]) -> bool
-    ensures { result ≡ list_all spec.is_plain (map (λ line. line.now) lines.now) }
-{
-    lines.iter().all(|line| is_plain(line))
 }
 
 fn place_of(bytes: &[u8], at: u8) -> Option<usize>
@@ -46,31 +36,12 @@ fn place_of(bytes: &[u8], at: u8) -> Option<usize>
 pub fn cut(bytes: &[u8], at: u8) -> (&[u8], Option<&[u8]>)
     ensures pieces { slice_split (λ byte. byte == at) bytes.now ≡ result.0.now ∷ pieces_behind at result.1 }
     ensures shorter { size_behind result.1 ≤ length bytes.now }
+    ensures within { length result.0.now ≤ length bytes.now }
 {
     match place_of(bytes, at) {
         None => (bytes, None),
         Some(place) => (&bytes[..place], Some(&bytes[place + 1..])),
     }
-}
-
-/// The lines that count, without those behind the first `LINES + 1`.
-pub fn kept_lines<'a>(alloc: Global, bytes: &'a [u8]) -> Result<Vec<&'a [u8]>, AllocError>
-    ensures { IfOk result (λ all. map (λ line. line.now) all.items ≡ take (LINES + 1) (kept (lines bytes.now))) }
-{
-    let mut all = Vec::new(alloc);
-    let (first, mut rest) = cut(bytes, b'\n');
-    all.push(first)?;
-    while let Some(later) = rest {
-        if all.len() > LINES {
-            return Ok(all);
-        }
-        let (line, behind) = cut(later, b'\n');
-        if !is_passed_over(line) {
-            all.push(line)?;
-        }
-        rest = behind;
-    }
-    Ok(all)
 }
 
 /// The words of the line: the longest runs of bytes that aren't blanks.

@@ -1,38 +1,65 @@
-//! The lines that have numbers.
-ghost use Rattle.std.specs.Prelude.{◌≡◌, ◌≤◌, length, map, IfOk, IfSome, option_map};
-ghost use Rattle.ratfun_text.specs.Bytes.{number_below};
-ghost use Rattle.graph_file.specs.Form as spec;
+//! Numbers in the words of a line.
+ghost use Rattle.std.specs.Prelude.{◌≡◌, ◌≤◌, ◌<◌, ◌^◌, min, map, IfOk, IfSome, option_map};
+ghost use Rattle.std.specs.List.{list_all};
+ghost use Rattle.std.specs.Char.{is_ascii_digit};
+ghost use Rattle.ratfun_text.specs.Bytes as spec_bytes;
+ghost use Rattle.ratfun_text.specs.Bytes.{number_of};
+ghost use Rattle.graph_file.specs.Line as spec;
 
-use crate::point::Point;
 use ratfun_text::bytes::number;
+use sqlite_items::Items;
 use std::alloc::{AllocError, Global};
 
-/// What each entry of a point is below: 2^61 - 1.
-const ENTRY_LIMIT: u128 = 2305843009213693951;
-
-/// Whether the words are `flow 1`.
-pub fn is_version(words: &[&[u8]]) -> bool
-    ensures { result ≡ spec.is_version (map (λ word. word.now) words.now) }
+fn are_digits(bytes: &[u8]) -> bool
+    ensures { result ≡ list_all is_ascii_digit bytes.now }
 {
-    let [first, version] = words else {
-        return false;
-    };
-    *first == b"flow".as_slice() && number(version) == Some(1)
+    bytes.iter().all(|byte| byte.is_ascii_digit())
 }
 
-fn entry(word: &[u8]) -> Option<u64>
-    ensures { result ≡ number_below 2305843009213693951 word.now }
+fn is_digits(text: &[u8]) -> bool
+    ensures { result ≡ spec_bytes.is_digits text.now }
 {
-    match number(word) {
-        Some(value) if value < ENTRY_LIMIT => Some(value as u64),
-        _ => None,
+    match text {
+        [] => false,
+        [_, ..] => are_digits(text),
     }
 }
 
-fn entries(alloc: Global, words: &[&[u8]]) -> Result<Option<Vec<u64>>, AllocError>
-    ensures { IfOk result (λ entries. option_map (λ all. all.items) entries ≡ spec.all_of (map (number_below 2305843009213693951) (map (λ word. word.now) words.now))) }
+/// The number that the text writes, or this greatest one where it is greater.
+#[tactic(auto, using(crate::proofs::Capped::capped_narrow, crate::proofs::Capped::capped_wide))]
+fn capped(text: &[u8], greatest: u64) -> Option<u64>
+    ensures value { result ≡ option_map (λ n. min n greatest) (number_of text.now) }
+    ensures within { IfSome result (λ n. n ≤ greatest) }
 {
-    let mut all = Vec::new(alloc);
+    if !is_digits(text) {
+        return None;
+    }
+    match number(text) {
+        Some(value) if value < u128::from(greatest) => Some(value as u64),
+        _ => Some(greatest),
+    }
+}
+
+/// The entry of a point that the word writes.
+pub fn entry(word: &[u8]) -> Option<u64>
+    ensures { result ≡ spec.entry_of word.now }
+{
+    capped(word, u64::MAX)
+}
+
+/// The position, or the number of rows or columns, that the word writes.
+pub fn size(word: &[u8]) -> Option<u32>
+    ensures { result ≡ spec.size_of word.now }
+{
+    let size = capped(word, u64::from(u32::MAX))?;
+    Some(size as u32)
+}
+
+/// The entries that the words write.
+pub fn entries(alloc: Global, words: &[&[u8]]) -> Result<Option<Items<u64>>, AllocError>
+    ensures { IfOk result (λ entries. entries ≡ spec.all_of (map spec.entry_of (map (λ word. word.now) words.now))) }
+{
+    let mut all = Items::new(alloc);
     for word in words {
         let Some(entry) = entry(word) else {
             return Ok(None);
@@ -40,22 +67,4 @@ fn entries(alloc: Global, words: &[&[u8]]) -> Result<Option<Vec<u64>>, AllocErro
         all.push(entry)?;
     }
     Ok(Some(all))
-}
-
-/// The point in the words `point NUM ..`, with an entry for each variable.
-pub fn point(alloc: Global, words: &[&[u8]], variables: usize) -> Result<Option<Point>, AllocError>
-    requires some { 1 ≤ variables }
-    requires few { variables ≤ 8 }
-    ensures { IfOk result (λ point. point ≡ spec.point_entries variables (map (λ word. word.now) words.now)) }
-{
-    let [first, numbers @ ..] = words else {
-        return Ok(None);
-    };
-    if *first != b"point".as_slice() || numbers.len() != variables {
-        return Ok(None);
-    }
-    let Some(all) = entries(alloc, numbers)? else {
-        return Ok(None);
-    };
-    Ok(Some(Point::of(all.as_slice())))
 }

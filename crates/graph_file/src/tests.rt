@@ -1,4 +1,6 @@
-use crate::{FileError, FileKind, Graph, Job, Need, Node, NodeKind, Point, Source, read_graphs};
+use crate::{FileError, FileKind, Graph, Job, Need, Node, NodeKind, Source, read_graphs};
+use poly_maps::Point;
+use ratfun_text::{ExprError, ExprKind};
 use std::alloc::Global;
 use std::process::Abort;
 use std::test::Fail;
@@ -11,14 +13,17 @@ fn read(rt: &impl Abort, alloc: Global, bytes: &[u8]) -> Result<Job, FileError> 
     read_graphs(alloc, bytes, Need::Points)
 }
 
-fn is_refused(rt: &impl Abort, alloc: Global, bytes: &[u8]) -> bool {
+fn is_refused(rt: &impl Abort, alloc: Global, bytes: &[u8], line: usize, kind: FileKind) -> bool {
     match read(rt, alloc, bytes) {
         Ok(_) => false,
-        Err(error) => error
-            == FileError {
-                line: 0,
-                kind: FileKind::Syntax,
-            },
+        Err(error) => error == FileError { line, kind },
+    }
+}
+
+fn refused_expression(expression: u32, place: usize, kind: ExprKind) -> FileKind {
+    FileKind::Expr {
+        expression,
+        error: ExprError { place, kind },
     }
 }
 
@@ -39,7 +44,8 @@ fn types_cross_threads() {
 fn two_quotients_are_read(rt: HostRuntime) -> Result<(), Fail> {
     for bytes in [
         TWO_QUOTIENTS,
-        b"flow 01\r\n# a note \x80\n\t\n graph\tmain\r\ninput x  y\n\n  #\nnode r eval input = x / ( x+y );1/y\noutput r\npoint 001 2".as_slice(),
+        b"flow 01\n# a comment \xff\ngraph main\n \t\r\ninput x y\nnode r eval input = x/(x+y) ; 1/y\n  # b\noutput r\npoint 1 2",
+        b"flow 1\r\ngraph main\r\ninput x y\r\nnode r eval input = x/(x+y) ; 1/y\r\noutput r\r\npoint 1 2\r\n",
     ] {
         let job = read(&rt, rt.alloc(), bytes)?;
         assert_eq!(rt; job.need, Need::Points);
@@ -53,9 +59,6 @@ fn two_quotients_are_read(rt: HostRuntime) -> Result<(), Fail> {
         let node = graph.nodes.get(0).expect(&rt, "the node");
         assert_eq!(rt; node.name.bytes(), b"r".as_slice());
         assert!(rt; node.needed);
-        let NodeKind::Eval { from, exprs } = &node.kind;
-        assert_eq!(rt; *from, Source::Input);
-        assert_eq!(rt; exprs.len(), 2);
         let point = job.points.get(0).expect(&rt, "the point");
         assert_eq!(rt; point.entries(), [1, 2].as_slice());
     }
@@ -63,17 +66,225 @@ fn two_quotients_are_read(rt: HostRuntime) -> Result<(), Fail> {
 }
 
 #[test]
-fn files_out_of_form_are_refused(rt: HostRuntime) {
-    for bytes in [
-        b"".as_slice(),
-        b"# a note\nflow 1\ngraph main\ninput x y\nnode r eval input = x ; 1/y\noutput r\npoint 1 2\n",
-        b"flow 1\ngraph main\ninput x y\nnode r eval input = x/(x+y) ; 1/y\noutput r\npoint 1 2\npoint 3 4\n",
-        b"flow 1\ngraph main\ninput x y\nnode r eval input = x/(x+y) ; x*y\noutput r\npoint 1 2\n",
-        b"flow 1\ngraph main\ninput x y\nnode r eval input = x/(x+y) ; 1/y\noutput r\npoint 1 2305843009213693951\n",
-        b"flow 1\ngraph main\ninput x y\nnode r eval input = x/(x+y) ; 1/y\noutput r\npoint 1\n",
-        b"flow 2\ngraph main\ninput x y\nnode r eval input = x/(x+y) ; 1/y\noutput r\npoint 1 2\n",
-        b"flow 1\ngraph main\ninput x y\nnode r eval input = x/(x+y) ; 1/y\noutput r \x80\npoint 1 2\n",
-    ] {
-        assert!(rt; is_refused(&rt, rt.alloc(), bytes));
+fn nodes_of_each_kind_are_read(rt: HostRuntime) -> Result<(), Fail> {
+    let bytes =
+        b"flow 1\ngraph main\ninput x y\nnode a eval input = x ; y ; x*y ; 2\nnode t take a 3 input 1\nnode s slice a 2 3\nnode c chain input a\nnode u sum a a\nnode p product a a\nnode m matmul a a 2 2 2\nnode z eval m = z4\noutput z\npoint 3 5\npoint 0 2305843009213693950\n";
+    let job = read(&rt, rt.alloc(), bytes)?;
+    assert_eq!(rt; job.points.len(), 2);
+    let graph = job.graphs.get(0).expect(&rt, "the graph");
+    assert_eq!(rt; graph.nodes.len(), 8);
+    assert_eq!(rt; graph.output, Source::Node(7));
+    for (place, needed) in [true, false, false, false, false, false, true, true]
+        .iter()
+        .enumerate()
+    {
+        let node = graph.nodes.get(place).expect(&rt, "a node");
+        assert_eq!(rt; node.needed, *needed);
     }
+    let node = graph.nodes.get(1).expect(&rt, "the node that takes");
+    let NodeKind::Take { parts } = &node.kind else {
+        return Err(Fail::from("another kind"));
+    };
+    assert_eq!(rt;
+        parts.as_slice(),
+        [(Source::Node(0), 3), (Source::Input, 1)].as_slice()
+    );
+    let node = graph.nodes.get(2).expect(&rt, "the slice");
+    let NodeKind::Slice { from, first, last } = &node.kind else {
+        return Err(Fail::from("another kind"));
+    };
+    assert_eq!(rt; (*from, *first, *last), (Source::Node(0), 2, 3));
+    let node = graph.nodes.get(7).expect(&rt, "the last node");
+    let NodeKind::Eval { from, exprs } = &node.kind else {
+        return Err(Fail::from("another kind"));
+    };
+    assert_eq!(rt; *from, Source::Node(6));
+    assert_eq!(rt; exprs.len(), 1);
+    Ok(())
+}
+
+#[test]
+fn the_input_may_be_the_output(rt: HostRuntime) -> Result<(), Fail> {
+    let job = read(
+        &rt,
+        rt.alloc(),
+        b"flow 1\ngraph input\ninput input y\nnode r eval input = y/(input+y)\noutput input",
+    )?;
+    assert_eq!(rt; job.points.len(), 0);
+    let graph = job.graphs.get(0).expect(&rt, "the graph");
+    assert_eq!(rt; graph.output, Source::Input);
+    let node = graph.nodes.get(0).expect(&rt, "the node");
+    assert!(rt; !node.needed);
+    Ok(())
+}
+
+#[test]
+fn lines_out_of_form_are_told(rt: HostRuntime) {
+    for (bytes, line) in [
+        (b"".as_slice(), 1),
+        (b"# a note\nflow 1\n", 1),
+        (b"flow one\n", 1),
+        (b"flow 1\ngra", 2),
+        (b"flow 1\nflow 1\n", 2),
+        (b"flow 1\ngraph main\n\ninput\n", 4),
+        (b"flow 1\ngraph main\ninput x\nnode r chain\n", 4),
+        (
+            b"flow 1\ngraph main\ninput x\nnode r take input 1 input\n",
+            4,
+        ),
+        (
+            b"flow 1\ngraph main\ninput x\nnode r slice input 1 2 3\n",
+            4,
+        ),
+        (b"flow 1\ngraph main\ninput x\nnode r eval input x\n", 4),
+        (b"flow 1\ngraph main\ninput x\nnode r dense input 1 1\n", 4),
+        (
+            b"flow 1\ngraph main\ninput x\noutput input\ngraph next\n",
+            5,
+        ),
+        (b"flow 1\ngraph main\ninput x\noutput input \x7f\n", 4),
+        (b"flow 1\ngraph main\ninput x y\noutput input\npoint 1\n", 5),
+        (
+            b"flow 1\ngraph main\ninput x y\noutput input\npoint 1 -2\n",
+            5,
+        ),
+    ] {
+        assert!(rt; is_refused(&rt, rt.alloc(), bytes, line, FileKind::Syntax));
+    }
+}
+
+#[test]
+fn the_first_kind_is_told_at_its_line(rt: HostRuntime) {
+    for (bytes, line, kind) in [
+        (b"flow 3\ngraph main\n".as_slice(), 1, FileKind::Version),
+        (b"flow 1\ngraph main\ninput x y x\n", 3, FileKind::Repeated),
+        (
+            b"flow 1\ngraph main\ninput x\nnode a sum input\nnode a sum b\n",
+            5,
+            FileKind::Repeated,
+        ),
+        (
+            b"flow 1\ngraph main\ninput x\nnode input sum b\n",
+            4,
+            FileKind::Repeated,
+        ),
+        (
+            b"flow 1\ngraph main\ninput x\n\nnode a sum b\n",
+            5,
+            FileKind::UnknownNode,
+        ),
+        (
+            b"flow 1\ngraph main\ninput x\noutput x\n",
+            4,
+            FileKind::UnknownNode,
+        ),
+        (
+            b"flow 1\ngraph main\ninput x\nnode a slice b 0 9\n",
+            4,
+            FileKind::UnknownNode,
+        ),
+        (
+            b"flow 1\ngraph main\ninput x\noutput input\npoint 2305843009213693951\n",
+            5,
+            FileKind::Residue,
+        ),
+        (
+            b"flow 1\ngraph main\ninput x\noutput input\npoint 99999999999999999999999999999999999999999\n",
+            5,
+            FileKind::Residue,
+        ),
+        (
+            b"flow 1\ngraph main\ninput a b c d e f g h i\n",
+            3,
+            FileKind::Limit,
+        ),
+        (
+            b"flow 1\ngraph abcdefghijklmnopqrstuvwxyz0123456\n",
+            2,
+            FileKind::Limit,
+        ),
+        (
+            b"flow 1\ngraph main\ninput x\nnode a slice input 2 1\n",
+            4,
+            FileKind::Limit,
+        ),
+        (
+            b"flow 1\ngraph main\ninput x\nnode a take input 0\n",
+            4,
+            FileKind::Limit,
+        ),
+        (
+            b"flow 1\ngraph main\ninput x\nnode a take input 262145\n",
+            4,
+            FileKind::Limit,
+        ),
+        (
+            b"flow 1\ngraph main\ninput x\nnode a matmul input input 512 1 513\n",
+            4,
+            FileKind::Limit,
+        ),
+        (
+            b"flow 1\ngraph main\ninput x y\nnode r eval input = x/(x+y) ; 1/y\n",
+            5,
+            FileKind::Missing,
+        ),
+        (b"flow 1", 1, FileKind::Missing),
+    ] {
+        assert!(rt; is_refused(&rt, rt.alloc(), bytes, line, kind));
+    }
+}
+
+#[test]
+fn the_first_refused_expression_is_told(rt: HostRuntime) {
+    for (bytes, kind) in [
+        (
+            b"flow 1\ngraph main\ninput x y\nnode r eval input = x/(x+y) ; 1/w\n".as_slice(),
+            refused_expression(2, 3, ExprKind::UnknownName),
+        ),
+        (
+            b"flow 1\ngraph main\ninput x y\nnode r eval input = x/(x+y) ; 1/",
+            refused_expression(2, 3, ExprKind::Unexpected),
+        ),
+        (
+            b"flow 1\ngraph main\ninput x y\nnode r eval input =\n",
+            refused_expression(1, 0, ExprKind::Unexpected),
+        ),
+        (
+            b"flow 1\ngraph main\ninput x y\nnode r eval input = x;\n",
+            refused_expression(2, 0, ExprKind::Unexpected),
+        ),
+    ] {
+        assert!(rt; is_refused(&rt, rt.alloc(), bytes, 4, kind));
+    }
+}
+
+#[test]
+fn points_are_read_up_to_their_limit(rt: HostRuntime) -> Result<(), Fail> {
+    let mut bytes = Vec::from_slice(rt.alloc(), b"flow 1\ngraph main\ninput x\noutput input\n")?;
+    for _turn in 0..65536 {
+        bytes.extend_from_slice(b"point 7\n")?;
+    }
+    let job = read(&rt, rt.alloc(), bytes.as_slice())?;
+    assert_eq!(rt; job.points.len(), 65536);
+    bytes.extend_from_slice(b"point 7\n")?;
+    assert!(rt; is_refused(&rt, rt.alloc(), bytes.as_slice(), 65541, FileKind::Limit));
+    Ok(())
+}
+
+#[test]
+fn nodes_are_read_up_to_their_limit(rt: HostRuntime) -> Result<(), Fail> {
+    let mut bytes = Vec::from_slice(rt.alloc(), b"flow 1\ngraph main\ninput x\n")?;
+    for turn in 0..4096 {
+        let line = format!(in rt.alloc(); "node n{turn} chain input\n")?;
+        bytes.extend_from_slice(line.as_bytes())?;
+    }
+    let mut more = Vec::from_slice(rt.alloc(), bytes.as_slice())?;
+    bytes.extend_from_slice(b"output n4095\n")?;
+    let job = read(&rt, rt.alloc(), bytes.as_slice())?;
+    let graph = job.graphs.get(0).expect(&rt, "the graph");
+    assert_eq!(rt; graph.nodes.len(), 4096);
+    assert_eq!(rt; graph.output, Source::Node(4095));
+    more.extend_from_slice(b"node n chain input\n")?;
+    assert!(rt; is_refused(&rt, rt.alloc(), more.as_slice(), 4100, FileKind::Limit));
+    Ok(())
 }

@@ -1,6 +1,6 @@
 -- Lemmas on the value of an expression and on the places that it uses.
-use Rattle.std.proofs.Common.{◌≡◌, ℕ, zero, suc, ◌<◌, ◌≤◌, ◌+◌, ◌-◌, ◌*◌, ◌%◌, Bool, if◌then◌else◌, List, [], ◌∷◌, length, drop, get_or, Option, Some, add-one, drop-cons, sym, ap, subst, ◌∙◌, arith}
-use Rattle.std.specs.Option.{option_and_then}
+use Rattle.std.proofs.Common.{◌≡◌, ℕ, zero, suc, ◌<◌, ◌≤◌, ◌+◌, ◌-◌, ◌*◌, ◌%◌, ◌^◌, Bool, if◌then◌else◌, List, [], ◌∷◌, length, drop, get_or, Option, Some, add-one, drop-cons, sym, ap, subst, ◌∙◌, arith}
+use Rattle.std.specs.Option.{option_map, option_and_then}
 use Rattle.std.proofs.Math.Nat.{le-max_left, le-max_right}
 use Rattle.ratfun_text.specs.declared.expr.Expr.{Expr}
 use Rattle.ratfun_text.specs.declared.expr.Expr.TheOpen.{Expr-F}
@@ -13,6 +13,18 @@ value_sum m args parts = ap (value m args) (sym (e.rolls-Sum parts)) ∙ fold-ro
 
 pub value_product : (m : ℕ) (args : List ℕ) (parts : List (Bool × Expr)) → value m args (e.Prod parts) ≡ product_from m 1 (valued m args parts)
 value_product m args parts = ap (value m args) (sym (e.rolls-Prod parts)) ∙ fold-roll-Expr (Option ℕ) (value_step m args) (Expr-F.Prod parts)
+
+pub value_negative : (m : ℕ) (args : List ℕ) (part : Expr) → value m args (e.Neg part) ≡ option_map (λ v. (m - v) % m) (value m args part)
+value_negative m args part = ap (value m args) (sym (e.rolls-Neg part)) ∙ fold-roll-Expr (Option ℕ) (value_step m args) (Expr-F.Neg part)
+
+pub value_power : (m : ℕ) (args : List ℕ) (base : Expr) (exponent : ℕ) → value m args (e.Pow base exponent) ≡ option_map (λ v. (v ^ exponent) % m) (value m args base)
+value_power m args base exponent = ap (value m args) (sym (e.rolls-Pow base exponent)) ∙ fold-roll-Expr (Option ℕ) (value_step m args) (Expr-F.Pow base exponent)
+
+pub greatest_negative : (part : Expr) → greatest (e.Neg part) ≡ greatest part
+greatest_negative part = ap greatest (sym (e.rolls-Neg part)) ∙ fold-roll-Expr ℕ greatest_step (Expr-F.Neg part)
+
+pub greatest_power : (base : Expr) (exponent : ℕ) → greatest (e.Pow base exponent) ≡ greatest base
+greatest_power base exponent = ap greatest (sym (e.rolls-Pow base exponent)) ∙ fold-roll-Expr ℕ greatest_step (Expr-F.Pow base exponent)
 
 pub greatest_number : (n : ℕ) → greatest (e.Number n) ≡ 0
 greatest_number n = ap greatest (sym (e.rolls-Number n)) ∙ fold-roll-Expr ℕ greatest_step (Expr-F.Number n)

@@ -1,3 +1,7 @@
 pub mod Bytes
-pub mod Form
+pub mod Faults
+pub mod Grammar
+pub mod Names
+pub mod Parts
+pub mod Tokens
 pub mod Value

@@ -1,5 +1,5 @@
 -- The value of an expression modulo m, and the arguments that it uses.
-use Rattle.std.specs.Prelude.{ℕ, zero, suc, ◌+◌, ◌-◌, ◌*◌, ◌%◌, max, Bool, if◌then◌else◌, List, [], ◌∷◌, map, slice_get, Option, Some, None, option_and_then}
+use Rattle.std.specs.Prelude.{ℕ, zero, suc, ◌+◌, ◌-◌, ◌*◌, ◌%◌, ◌^◌, max, Bool, if◌then◌else◌, List, [], ◌∷◌, map, slice_get, Option, Some, None, option_map, option_and_then}
 use Rattle.prime_field.specs.Residue.{inverse}
 use Rattle.ratfun_text.specs.declared.expr.Expr.{Expr}
 use Rattle.ratfun_text.specs.declared.expr.Expr.TheOpen.{Expr-F}
@@ -28,6 +28,8 @@ product_from m total (part ∷ rest) = option_and_then (λ value. product_from m
 abbrev pub value_step : ℕ → List ℕ → Expr-F (Option ℕ) → Option ℕ
 value_step m args (Expr-F.Number n) = Some (n % m)
 value_step m args (Expr-F.Arg place) = argument args place
+value_step m args (Expr-F.Neg part) = option_map (λ value. (m - value) % m) part
+value_step m args (Expr-F.Pow base exponent) = option_map (λ value. (value ^ exponent) % m) base
 value_step m args (Expr-F.Sum parts) = sum_from m 0 parts
 value_step m args (Expr-F.Prod parts) = product_from m 1 parts
 
@@ -48,6 +50,8 @@ greatest_of (part ∷ rest) = max part.1 (greatest_of rest)
 abbrev pub greatest_step : Expr-F ℕ → ℕ
 greatest_step (Expr-F.Number n) = 0
 greatest_step (Expr-F.Arg place) = place
+greatest_step (Expr-F.Neg part) = part
+greatest_step (Expr-F.Pow base exponent) = base
 greatest_step (Expr-F.Sum parts) = greatest_of parts
 greatest_step (Expr-F.Prod parts) = greatest_of parts
 

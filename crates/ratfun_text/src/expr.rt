@@ -4,7 +4,7 @@ ghost use Rattle.prime_field.specs.Modulus.{value_of};
 ghost use Rattle.ratfun_text.specs.Value.{argument, sum_from, factor, product_from, value, valued, greatest, greatest_of, placed};
 
 use prime_field::Modulus;
-use sqlite_items::Items;
+use sqlite_items::{Boxed, Items};
 
 /// A rational expression in numbered arguments.
 #[cycle(expr)]
@@ -14,6 +14,10 @@ pub enum Expr {
     Number(u128),
     /// An argument, counted from 1.
     Arg(u32),
+    /// The negative.
+    Neg(Boxed<Expr>),
+    /// The power with this exponent; the power 0 is 1.
+    Pow(Boxed<Expr>, u32),
     /// The sum of the parts, of which those with `true` are taken off.
     Sum(Items<(bool, Expr)>),
     /// The product of the parts, by which those with `true` divide.
@@ -23,7 +27,9 @@ pub enum Expr {
 impl Expr {
     /// The value modulo `m` at these residues, the first of which is argument 1.
     ///
-    /// None where something is divided by a value that is no unit.
+    /// None where something is divided by a value that is no unit, or by what has no value itself. A product is taken
+    /// from left to right. Calls nest as deep as the tree, and a tree that `parse_expr` gives has fewer than 200 levels,
+    /// since no more than 64 parentheses and signs are open at once.
     #[cycle(value)]
     pub fn value(&self, m: Modulus, args: &[u64]) -> Option<u64>
         requires residues { All (λ a. a < value_of m) args.now }
@@ -34,6 +40,8 @@ impl Expr {
         match self {
             Expr::Number(n) => Some(m.reduce_u128(*n)),
             Expr::Arg(place) => argument(args, *place),
+            Expr::Neg(part) => Some(m.neg(part.get().value(m, args)?)),
+            Expr::Pow(base, exponent) => Some(m.pow(base.get().value(m, args)?, *exponent)),
             Expr::Sum(parts) => sum(parts.as_slice(), m, args),
             Expr::Prod(parts) => product(parts.as_slice(), m, args),
         }
@@ -46,6 +54,7 @@ impl Expr {
         match self {
             Expr::Number(_) => 0,
             Expr::Arg(place) => *place,
+            Expr::Neg(part) | Expr::Pow(part, _) => part.get().greatest(),
             Expr::Sum(parts) | Expr::Prod(parts) => {
                 let mut greatest = 0;
                 for (_, part) in parts.as_slice() {

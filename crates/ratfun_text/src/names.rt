@@ -1,9 +1,15 @@
 //! Names of arguments.
-ghost use Rattle.std.specs.Prelude.{◌≡◌, IfOk};
+ghost use Rattle.std.specs.Prelude.{◌≡◌, ◌+◌, ◌<◌, ◌^◌, IfOk, IfSome, bytes_eq, length, option_map, position};
+ghost use Rattle.ratfun_text.specs.Bytes.{number_below};
+ghost use Rattle.ratfun_text.specs.Names.{argument_of, names_of, number_behind_z};
 
+use crate::bytes::number;
 use sqlite_items::Items;
 use std::alloc::{AllocError, Global};
 use std::marker::Model;
+
+/// The greatest number of a numbered name.
+const LAST_NUMBERED: u128 = 262144;
 
 /// The one refusal of a call that needs memory and nothing else.
 pub type NoMemory = AllocError;
@@ -44,4 +50,57 @@ impl Name {
 pub enum Names {
     /// The names in order.
     Listed(Items<Name>),
+    /// The names `z1` to `z262144`, each of the argument with its number.
+    Numbered,
+}
+
+impl Names {
+    /// The argument that a name stands for, counted from 1.
+    pub(crate) fn argument(&self, name: &[u8]) -> Option<u32>
+        requires { length (names_of self.now) < 2 ^ 32 }
+        ensures { result ≡ argument_of self.now name.now }
+    {
+        match self {
+            Names::Listed(names) => place(names.as_slice(), name),
+            Names::Numbered => number_behind_z(name),
+        }
+    }
+}
+
+fn index(names: &[Name], name: &[u8]) -> Option<usize>
+    ensures place { result ≡ position (λ other. bytes_eq other name.now) names.now }
+    ensures within { IfSome result (λ place. place < length names.now) }
+{
+    names.iter().position(|other| other.bytes() == name)
+}
+
+/// The place of a name in the list, counted from 1.
+fn place(names: &[Name], name: &[u8]) -> Option<u32>
+    requires { length names.now < 2 ^ 32 }
+    ensures { result ≡ option_map (λ place. place + 1) (position (λ other. bytes_eq other name.now) names.now) }
+{
+    let place = index(names, name)?;
+    Some(place as u32 + 1)
+}
+
+/// The number that the digits write, where it is at most the greatest of the numbered names.
+fn number_of_argument(digits: &[u8]) -> Option<u32>
+    ensures { result ≡ number_below 262145 digits.now }
+{
+    let number = number(digits)?;
+    if number > LAST_NUMBERED {
+        return None;
+    }
+    Some(number as u32)
+}
+
+/// The number that stands behind a `z` with no zero in front.
+fn number_behind_z(name: &[u8]) -> Option<u32>
+    ensures { result ≡ number_behind_z name.now }
+{
+    match name {
+        [b'z', b'0', ..] => None,
+        [b'z', digits @ ..] => number_of_argument(digits),
+        _ => None,
+    }
 }

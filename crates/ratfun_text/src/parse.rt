@@ -1,23 +1,49 @@
 //! From a text to an expression.
-ghost use Rattle.std.specs.Prelude.{◌≡◌, ◌<◌, ◌^◌, ◌==◌, None, Some, IfErr, IfOk, IfSome, MatchOption, bytes_eq, length, option_copied, position};
-ghost use Rattle.ratfun_text.specs.Form.{IsRefusal, names_of, expr_of, item_of, addends_of, inside_of, place_of, cut_at, sum_of, quotient_of};
+ghost use Rattle.std.specs.Prelude.{◌≡◌, ◌≢◌, ◌<◌, ◌≤◌, ◌^◌, ℕ, List, IfErr, IfOk, length};
+ghost use Rattle.ratfun_text.specs.Faults.{IsFaultless, IsFirst, error_at};
+ghost use Rattle.ratfun_text.specs.Grammar.{ExprText, IsTreeOf, Spells};
+ghost use Rattle.ratfun_text.specs.Names.{last_argument, names_of};
+ghost use Rattle.ratfun_text.specs.Value.{greatest};
+ghost use Rattle.ratfun_text.specs.declared.names.Names.{Names};
+ghost use Rattle.ratfun_text.specs.declared.parse.ExprKind.{ExprKind};
 
-use crate::bytes::{is_name, number, trim};
+use crate::builder::Builder;
+use crate::bytes::is_blank;
 use crate::expr::Expr;
-use crate::names::{Name, Names};
-use sqlite_items::Items;
+use crate::names::Names;
+use crate::tokens::run;
 use std::alloc::{AllocError, Global};
 use thiserror::Error;
 
 /// Why a text gave no expression.
 #[derive(Clone, Copy, Debug, PartialEq, Eq, Error)]
 pub enum ExprKind {
-    /// The text is no expression.
-    #[error("unexpected text")]
+    /// No expression begins with the text up to and with this byte, or the text ends before an expression does.
+    #[error("unexpected")]
     Unexpected,
+    /// A number is 2^128 or more, or an exponent is more than 65535.
+    #[error("wide number")]
+    WideNumber,
+    /// A name is not among the names.
+    #[error("unknown name")]
+    UnknownName,
+    /// More than 64 parentheses and signs in front of a factor are open.
+    #[error("too deep")]
+    TooDeep,
     /// There was no memory for the tree.
     #[error("out of memory")]
     NoMemory,
+}
+
+impl From<AllocError> for ExprKind {
+    ghost use Rattle.std.specs.Prelude.{◌≡◌};
+    ghost use Rattle.ratfun_text.specs.declared.parse.ExprKind.TheVariants.{NoMemory};
+
+    ghost from_gives = { λ _ kind. kind ≡ NoMemory };
+
+    fn from(_error: AllocError) -> ExprKind {
+        ExprKind::NoMemory
+    }
 }
 
 /// A refusal of a text, with its place in bytes, counted from 0.
@@ -31,132 +57,68 @@ pub struct ExprError {
 }
 
 impl ExprError {
-    /// The text is no expression.
-    const UNEXPECTED: ExprError = ExprError {
-        place: 0,
-        kind: ExprKind::Unexpected,
-    };
-}
-
-impl From<AllocError> for ExprError {
-    ghost use Rattle.std.specs.Prelude.{◌≡◌};
-    ghost use Rattle.ratfun_text.specs.declared.parse.ExprKind.TheVariants.{NoMemory};
-
-    ghost from_gives = { λ _ e. e ≡ record { place = 0; kind = NoMemory } };
-
-    fn from(_error: AllocError) -> ExprError {
-        ExprError {
-            place: 0,
-            kind: ExprKind::NoMemory,
+    fn at(place: usize, kind: ExprKind) -> ExprError
+        ensures { result ≡ error_at place kind }
+    {
+        match kind {
+            ExprKind::NoMemory => ExprError { place: 0, kind },
+            _ => ExprError { place, kind },
         }
     }
 }
 
 /// Reads the expression that the text writes in these names.
 ///
-/// The texts are an item, or two items with `/` between them. An item is a number below 2^128, a name, or two
-/// names with `+` between them in parentheses. Blanks may stand before, between and after these. Any other text is
-/// refused as [`ExprKind::Unexpected`], at place 0. Where a name stands twice among the names, its first place counts.
+///     expr   = term { ("+" | "-") term }
+///     term   = factor { ("*" | "/") factor }
+///     factor = "-" factor | power
+///     power  = atom [ "^" number ]
+///     atom   = number | name | "(" expr ")"
+///
+/// Spaces, tabs and carriage returns may stand before, between and after the tokens. A number is as many digits as
+/// stand together, and a name a letter with as many letters, digits and underscores as follow it. The tree has no
+/// node for parentheses, nor for a sum or a product of one part.
+///
+/// An error tells the fault with the least place, and of several there the first in the order of `ExprKind`. The place
+/// of a number or a name is its first byte, that of `TooDeep` the parenthesis or the sign that is one too many, and
+/// that of `Unexpected` the length of the text where the text ends too soon. Time grows with the length of the text
+/// and with the number of names, and no call is nested: what is open lies on the heap.
 pub fn parse_expr(alloc: Global, text: &[u8], names: &Names) -> Result<Expr, ExprError>
     requires few { length (names_of names.now) < 2 ^ 32 }
-    ensures ok { IfOk result (λ e. expr_of (names_of names.now) text.now ≡ Some e) }
-    ensures refused { IfErr result (λ error. IsRefusal error (expr_of (names_of names.now) text.now)) }
+    ensures tree { IfOk result (λ tree. IsTreeOf names.now text.now tree) }
+    ensures faultless { IfOk result (λ tree. IsFaultless names.now text.now) }
+    ensures arguments { IfOk result (λ tree. greatest tree ≤ last_argument names.now) }
+    ensures first { IfErr result (λ error. error.kind ≢ ExprKind.NoMemory → IsFirst names.now text.now error.place error.kind) }
+    ensures memory { IfErr result (λ error. error.kind ≡ ExprKind.NoMemory → error.place ≡ 0) }
+    ensures read { IsFaultless names.now text.now → IfErr result (λ error. error.kind ≡ ExprKind.NoMemory) }
 {
-    let Names::Listed(names) = names;
-    let names = names.as_slice();
-    let Some((dividend, divisor)) = cut(text, b'/') else {
-        return item(alloc, text, names);
-    };
-    let dividend = item(alloc, dividend, names)?;
-    let divisor = item(alloc, divisor, names)?;
-    Ok(quotient(alloc, dividend, divisor)?)
-}
-
-fn first_place(text: &[u8], byte: u8) -> Option<usize>
-    ensures place { result ≡ position (λ other. other == byte) text.now }
-    ensures within { IfSome result (λ place. place < length text.now) }
-{
-    text.iter().position(|other| *other == byte)
-}
-
-/// The text before and after the first such byte.
-fn cut(text: &[u8], byte: u8) -> Option<(&[u8], &[u8])>
-    ensures { MatchOption result (cut_at byte text.now ≡ None) (λ parts. cut_at byte text.now ≡ Some (parts.0.now, parts.1.now)) }
-{
-    let place = first_place(text, byte)?;
-    Some((&text[..place], &text[place + 1..]))
-}
-
-fn index(names: &[Name], name: &[u8]) -> Option<usize>
-    ensures place { result ≡ position (λ other. bytes_eq other name.now) names.now }
-    ensures within { IfSome result (λ place. place < length names.now) }
-{
-    names.iter().position(|other| other.bytes() == name)
-}
-
-/// The place of a name among the names, counted from 1.
-fn place(names: &[Name], name: &[u8]) -> Option<u32>
-    requires few { length names.now < 2 ^ 32 }
-    ensures { result ≡ place_of names.now name.now }
-{
-    if !is_name(name) {
-        return None;
+    let mut builder = Builder::new(alloc);
+    let mut at = 0;
+    while at < text.len() {
+        let first = text[at];
+        if is_blank(first) {
+            at += 1;
+        } else {
+            let end = at + 1 + run(first, &text[at + 1..]);
+            builder = match builder.read(names, &text[at..end]) {
+                Ok(builder) => builder,
+                Err(kind) => return Err(ExprError::at(at, kind)),
+            };
+            at = end;
+        }
     }
-    let place = index(names, name)?;
-    Some(place as u32 + 1)
-}
-
-/// What stands between parentheses at the ends of the text.
-fn inside(text: &[u8]) -> Option<&[u8]>
-    ensures { option_copied result ≡ inside_of text.now }
-{
-    match text {
-        [b'(', inside @ .., b')'] => Some(inside),
-        _ => None,
+    match builder.finish() {
+        Ok(tree) => Ok(tree),
+        Err(kind) => Err(ExprError::at(at, kind)),
     }
 }
 
-/// The two arguments whose names stand before and after a `+`.
-fn addends(text: &[u8], names: &[Name]) -> Option<(u32, u32)>
-    requires few { length names.now < 2 ^ 32 }
-    ensures { result ≡ addends_of names.now text.now }
-{
-    let (first, second) = cut(inside(text)?, b'+')?;
-    Some((place(names, trim(first))?, place(names, trim(second))?))
-}
+/// A text has at most one parse tree.
+pub fn one_tree()
+    ensures { (text : List ℕ) (a b : ExprText) → Spells a text → Spells b text → a ≡ b }
+{}
 
-fn item(alloc: Global, text: &[u8], names: &[Name]) -> Result<Expr, ExprError>
-    requires few { length names.now < 2 ^ 32 }
-    ensures ok { IfOk result (λ e. item_of names.now text.now ≡ Some e) }
-    ensures refused { IfErr result (λ error. IsRefusal error (item_of names.now text.now)) }
-{
-    let text = trim(text);
-    if let Some(number) = number(text) {
-        return Ok(Expr::Number(number));
-    }
-    if let Some(place) = place(names, text) {
-        return Ok(Expr::Arg(place));
-    }
-    match addends(text, names) {
-        Some((first, second)) => Ok(sum(alloc, first, second)?),
-        None => Err(ExprError::UNEXPECTED),
-    }
-}
-
-fn sum(alloc: Global, first: u32, second: u32) -> Result<Expr, AllocError>
-    ensures { IfOk result (λ e. e ≡ sum_of first second) }
-{
-    let mut parts = Items::new(alloc);
-    parts.push((false, Expr::Arg(first)))?;
-    parts.push((false, Expr::Arg(second)))?;
-    Ok(Expr::Sum(parts))
-}
-
-fn quotient(alloc: Global, dividend: Expr, divisor: Expr) -> Result<Expr, AllocError>
-    ensures { IfOk result (λ e. e ≡ quotient_of dividend divisor) }
-{
-    let mut parts = Items::new(alloc);
-    parts.push((false, dividend))?;
-    parts.push((true, divisor))?;
-    Ok(Expr::Prod(parts))
-}
+/// At most one fault of a text is told.
+pub fn one_fault()
+    ensures { (names : Names) (text : List ℕ) (p q : ℕ) (k l : ExprKind) → IsFirst names text p k → IsFirst names text q l → (p ≡ q) × (k ≡ l) }
+{}

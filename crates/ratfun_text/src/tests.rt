@@ -1,5 +1,5 @@
 ghost use Rattle.std.specs.Prelude.{◌<◌, ◌^◌, IfOk, length};
-ghost use Rattle.ratfun_text.specs.Form.{names_of};
+ghost use Rattle.ratfun_text.specs.Names.{names_of};
 
 use crate::{Expr, ExprError, ExprKind, Name, Names, parse_expr};
 use prime_field::Modulus;
@@ -23,6 +23,40 @@ fn value(rt: &impl Abort, e: &Expr, m: Modulus, args: &[u64]) -> Option<u64> {
     e.value(m, args)
 }
 
+/// The tree of the text in the names `x` and `y`.
+fn parsed(alloc: Global, text: &[u8]) -> Result<Expr, ExprError> {
+    let names = x_and_y(alloc).map_err(|_error| ExprError {
+        place: 0,
+        kind: ExprKind::NoMemory,
+    })?;
+    parse_expr(alloc, text, &names)
+}
+
+/// Where the text is refused in these names, and why.
+fn refusal(alloc: Global, text: &[u8]) -> Option<(usize, ExprKind)> {
+    let error = parsed(alloc, text).err()?;
+    Some((error.place, error.kind))
+}
+
+/// So many of the first bytes, the middle, and as many of the last byte.
+fn around(
+    alloc: Global,
+    count: usize,
+    first: &[u8],
+    middle: u8,
+    last: &[u8],
+) -> Result<Vec<u8>, AllocError> {
+    let mut text = Vec::new(alloc);
+    for _ in 0..count {
+        text.extend_from_slice(first)?;
+    }
+    text.push(middle)?;
+    for _ in 0..count {
+        text.extend_from_slice(last)?;
+    }
+    Ok(text)
+}
+
 fn crosses<T: Send + Sync>() {}
 
 #[test]
@@ -41,17 +75,22 @@ fn names_keep_their_bytes(rt: HostRuntime) -> Result<(), Fail> {
 }
 
 #[test]
-fn values_at_one_and_two(rt: HostRuntime) -> Result<(), Fail> {
-    let names = x_and_y(rt.alloc())?;
+fn values_at_three_and_five(rt: HostRuntime) -> Result<(), Fail> {
     for (text, m, want) in [
-        (b"x/(x+y)".as_slice(), Modulus::First, 1537228672809129301),
-        (b"1/y".as_slice(), Modulus::First, 1152921504606846976),
-        (b"x/(x+y)".as_slice(), Modulus::Second, 6148914691236517189),
         (
-            b"\t(\rx + y\t) /\r y ".as_slice(),
+            b"-x^2 + 2*(y-1)".as_slice(),
             Modulus::First,
-            1152921504606846977,
+            2305843009213693950,
         ),
+        (b"(-x)^2".as_slice(), Modulus::First, 9),
+        (b"--x^3".as_slice(), Modulus::Second, 27),
+        (b"y - x - 1".as_slice(), Modulus::First, 1),
+        (b"y - (x - 1)".as_slice(), Modulus::First, 3),
+        (b"x*-y".as_slice(), Modulus::Second, 9223372036854775768),
+        (b"x/y*y".as_slice(), Modulus::First, 3),
+        (b"8/2/2".as_slice(), Modulus::First, 2),
+        (b"(x-3)^0".as_slice(), Modulus::First, 1),
+        (b"\t(\rx + y\t) /\r 2 ".as_slice(), Modulus::First, 4),
         (
             b"340282366920938463463374607431768211455".as_slice(),
             Modulus::First,
@@ -63,49 +102,115 @@ fn values_at_one_and_two(rt: HostRuntime) -> Result<(), Fail> {
             7,
         ),
     ] {
-        let e = parse_expr(rt.alloc(), text, &names)?;
-        assert_eq!(rt; value(&rt, &e, m, &[1, 2]), Some(want));
+        let e = parsed(rt.alloc(), text)?;
+        assert_eq!(rt; value(&rt, &e, m, &[3, 5]), Some(want));
     }
     Ok(())
 }
 
 #[test]
-fn a_zero_divisor_leaves_no_value(rt: HostRuntime) -> Result<(), Fail> {
-    let names = x_and_y(rt.alloc())?;
-    let e = parse_expr(rt.alloc(), b"x/(x+y)", &names)?;
-    assert_eq!(rt; e.greatest(), 2);
-    assert_eq!(rt;
-        value(&rt, &e, Modulus::First, &[1, 2305843009213693950]),
-        None
-    );
+fn a_divisor_without_an_inverse_leaves_no_value(rt: HostRuntime) -> Result<(), Fail> {
+    for text in [
+        b"1/0/2".as_slice(),
+        b"1/(x-3)".as_slice(),
+        b"(1/(y-5))^0".as_slice(),
+        b"0*(x/(y-5))".as_slice(),
+    ] {
+        let e = parsed(rt.alloc(), text)?;
+        assert_eq!(rt; value(&rt, &e, Modulus::First, &[3, 5]), None);
+    }
     Ok(())
 }
 
 #[test]
-fn other_texts_are_refused(rt: HostRuntime) -> Result<(), Fail> {
-    let names = x_and_y(rt.alloc())?;
-    for text in [
-        b"".as_slice(),
-        b" ".as_slice(),
-        b"x*y".as_slice(),
-        b"x-y".as_slice(),
-        b"1/".as_slice(),
-        b"/1".as_slice(),
-        b"x y".as_slice(),
-        b"1 2".as_slice(),
-        b"z".as_slice(),
-        b"(x+y".as_slice(),
-        b"(x+1)".as_slice(),
-        b"((x+y))".as_slice(),
-        b"x/y/x".as_slice(),
-        b"340282366920938463463374607431768211456".as_slice(),
+fn a_sign_in_front_of_a_power_is_outside_of_it(rt: HostRuntime) -> Result<(), Fail> {
+    let tree = parsed(rt.alloc(), b"-(y)^2")?;
+    assert_eq!(rt; tree.greatest(), 2);
+    let Expr::Neg(power) = &tree else {
+        return Err("no sign".into());
+    };
+    let Expr::Pow(base, exponent) = power.get() else {
+        return Err("no power".into());
+    };
+    assert_eq!(rt; *exponent, 2);
+    assert!(rt; matches!(base.get(), Expr::Arg(2)));
+    Ok(())
+}
+
+#[test]
+fn each_fault_is_told_at_its_place(rt: HostRuntime) -> Result<(), Fail> {
+    for (text, place, kind) in [
+        (b"".as_slice(), 0, ExprKind::Unexpected),
+        (b" ".as_slice(), 1, ExprKind::Unexpected),
+        (b"x+ ".as_slice(), 3, ExprKind::Unexpected),
+        (b"x w".as_slice(), 2, ExprKind::Unexpected),
+        (b"2x".as_slice(), 1, ExprKind::Unexpected),
+        (b"x^-1".as_slice(), 2, ExprKind::Unexpected),
+        (b"x^2^2".as_slice(), 3, ExprKind::Unexpected),
+        (b"+x".as_slice(), 0, ExprKind::Unexpected),
+        (b"(x".as_slice(), 2, ExprKind::Unexpected),
+        (b"x)".as_slice(), 1, ExprKind::Unexpected),
+        (b"x*_y".as_slice(), 2, ExprKind::Unexpected),
+        (b"w+x y".as_slice(), 0, ExprKind::UnknownName),
+        (b" 1/w".as_slice(), 3, ExprKind::UnknownName),
+        (b"x*xx".as_slice(), 2, ExprKind::UnknownName),
+        (b"x^65536".as_slice(), 2, ExprKind::WideNumber),
+        (
+            b"340282366920938463463374607431768211456".as_slice(),
+            0,
+            ExprKind::WideNumber,
+        ),
     ] {
-        let refusal = parse_expr(rt.alloc(), text, &names).err();
+        assert_eq!(rt; refusal(rt.alloc(), text), Some((place, kind)));
+    }
+    assert_eq!(rt; refusal(rt.alloc(), b"x^65535"), None);
+    Ok(())
+}
+
+#[test]
+fn more_than_64_parentheses_and_signs_are_too_deep(rt: HostRuntime) -> Result<(), Fail> {
+    for (first, last, deepest) in [
+        (b"(".as_slice(), b")".as_slice(), 64),
+        (b"-".as_slice(), b"".as_slice(), 64),
+        (b"-(".as_slice(), b")".as_slice(), 32),
+        (b"-x*(".as_slice(), b")".as_slice(), 63),
+    ] {
+        let text = around(rt.alloc(), deepest, first, b'x', last)?;
+        assert_eq!(rt; refusal(rt.alloc(), &text), None);
+    }
+    for (first, last, count, place) in [
+        (b"(".as_slice(), b")".as_slice(), 65, 64),
+        (b"-".as_slice(), b"".as_slice(), 65, 64),
+        (b"-(".as_slice(), b")".as_slice(), 33, 64),
+        (b"- (".as_slice(), b")".as_slice(), 33, 96),
+        (b"-x*(".as_slice(), b")".as_slice(), 65, 256),
+    ] {
+        let text = around(rt.alloc(), count, first, b'x', last)?;
         assert_eq!(rt;
-            refusal,
+            refusal(rt.alloc(), &text),
+            Some((place, ExprKind::TooDeep))
+        );
+    }
+    Ok(())
+}
+
+#[test]
+fn numbered_names_have_no_leading_zero(rt: HostRuntime) -> Result<(), Fail> {
+    let tree = parse_expr(rt.alloc(), b"z1 + z262144", &Names::Numbered)?;
+    assert_eq!(rt; tree.greatest(), 262144);
+    for text in [
+        b"z0".as_slice(),
+        b"z01".as_slice(),
+        b"z".as_slice(),
+        b"y1".as_slice(),
+        b"z1_".as_slice(),
+        b"z262145".as_slice(),
+    ] {
+        assert_eq!(rt;
+            parse_expr(rt.alloc(), text, &Names::Numbered).err(),
             Some(ExprError {
                 place: 0,
-                kind: ExprKind::Unexpected
+                kind: ExprKind::UnknownName
             })
         );
     }
@@ -116,11 +221,11 @@ fn other_texts_are_refused(rt: HostRuntime) -> Result<(), Fail> {
 fn a_refusal_is_printed_with_its_place(rt: HostRuntime) -> Result<(), Fail> {
     let error = ExprError {
         place: 3,
-        kind: ExprKind::Unexpected,
+        kind: ExprKind::WideNumber,
     };
     assert_eq!(rt;
         format!(in rt.alloc(); "{error}")?.as_str(),
-        "unexpected text at byte 3"
+        "wide number at byte 3"
     );
     Ok(())
 }

@@ -1,0 +1,123 @@
+-- Lists that are written part after part.
+use Rattle.std.proofs.Common.{◌≡◌, ℕ, ◌+◌, ◌-◌, ◌<◌, ◌≤◌, List, [], ◌∷◌, ◌++◌, All, length, map, take, drop, set, get_or, Option, Some, refl, sym, ◌∙◌, ap, add-one, inl, inr, arith}
+use Rattle.std.specs.List.{flat_map}
+use Rattle.std.proofs.lemmas.List.{take_more, take_more_set, get_or-take, get_or-drop, get_or_past, map-append, length-map, length-take}
+use Rattle.std.proofs.lemmas.Bool.{cases_lt}
+use Rattle.std.proofs.lemmas.List.Elements.{All-nil, All-cons, All-get_or, All-push, All-same}
+use Rattle.std.proofs.lemmas.List.Folds.{length-flat_map-take}
+use Rattle.std.proofs.lemmas.Slice.{take-put_mid}
+use borrow.Rule.Slice.PartMut.{put_mid}
+use Rattle.basic_nodes.specs.Plain.{taken, chained, summed, multiplied}
+use Rattle.basic_nodes.proofs.Pieces.{taken-more, chained-more}
+use Rattle.basic_nodes.proofs.Plain.{summed-one, summed-more, multiplied-one, multiplied-more}
+use Rattle.graph_file.specs.declared.graph.Source.{Source}
+use Rattle.graph_file.specs.declared.graph.Source.TheVariants as source
+use Rattle.graph_eval.specs.GraphValue.{all_of, named}
+use Rattle.graph_eval.proofs.Gathered.{onto, asked_there}
+
+-- the lists of one part more
+pub lists_more : {X Y : Type 0} (f : X → Y) (parts : List X) (i : ℕ) (d : X) → i < length parts → map f (take (i + 1) parts) ≡ map f (take i parts) ++ f (get_or parts i d) ∷ []
+lists_more f parts i d below = ap (map f) (take_more parts i d below) ∙ map-append f (take i parts) (get_or parts i d ∷ [])
+
+-- one value more
+pub values_more : {X : Type 0} (ask : X → Option ℕ) (xs : List X) (out : List ℕ) (whole : Option (List ℕ)) (i v : ℕ) (d : X) → i < length xs → i < length out
+    → whole ≡ onto (take i out) (all_of (map ask (drop i xs))) → ask (get_or xs i d) ≡ Some v → whole ≡ onto (take (i + 1) (set out i v)) (all_of (map ask (drop (i + 1) xs)))
+values_more ask xs out whole i v d below room so_far is =
+    asked_there ask xs i d below whole (take i out) v so_far is ∙ ap (λ front. onto front (all_of (map ask (drop (i + 1) xs)))) (sym (take_more_set out i v room))
+
+pub residues_more : (m : ℕ) (out : List ℕ) (i v : ℕ) → i < length out → All (λ x. x < m) (take i out) → v < m → All (λ x. x < m) (take (i + 1) (set out i v))
+residues_more m out i v room so_far is = All-same (λ x. x < m) _ _ (take_more_set out i v room) (All-push (λ x. x < m) (take i out) v so_far is)
+
+-- a list of one place, once it is written
+pub one_place : (xs : List ℕ) (v : ℕ) → length xs ≡ 1 → set xs 0 v ≡ v ∷ []
+one_place [] v one = absurd (omega arith)
+one_place (x ∷ []) v one = refl
+one_place (x ∷ y ∷ xs) v one = absurd (omega arith)
+
+-- one entry more
+pub taken_more : (list : Source → List ℕ) (parts : List (Source × ℕ)) (out new : List ℕ) (i k : ℕ) (d : Source × ℕ) → i < length parts → i ≤ length out
+    → new ≡ get_or (list (get_or parts i d).0) ((get_or parts i d).1 - 1) 0 ∷ []
+    → take i out ≡ taken (map (λ part. list part.0) (take i parts)) (map (λ part. part.1) (take i parts))
+    → take (i + 1) (put_mid i k out new) ≡ taken (map (λ part. list part.0) (take (i + 1) parts)) (map (λ part. part.1) (take (i + 1) parts))
+taken_more list parts out new i k d below room is so_far =
+    let part = get_or parts i d in
+    let lists = map (λ (p : Source × ℕ). list p.0) (take i parts) in
+    let positions = map (λ (p : Source × ℕ). p.1) (take i parts) in
+    let same : length positions ≡ length lists = length-map (take i parts) (λ p. p.1) ∙ sym (length-map (take i parts) (λ p. list p.0)) in
+    take-put_mid i k out new (i + 1) (omega (arith, ap length is)) room
+    ∙ ap (λ t. t ++ new) so_far
+    ∙ ap (λ t. taken lists positions ++ t) is
+    ∙ sym (taken-more lists positions (list part.0) part.1 same)
+    ∙ ap (λ ls. taken ls (positions ++ part.1 ∷ [])) (sym (lists_more (λ p. list p.0) parts i d below))
+    ∙ ap (λ ps. taken (map (λ p. list p.0) (take (i + 1) parts)) ps) (sym (lists_more (λ p. p.1) parts i d below))
+
+chained_flat : {X : Type 0} (f : X → List ℕ) (xs : List X) → chained (map f xs) ≡ flat_map f xs
+chained_flat f [] = refl
+chained_flat f (x ∷ xs) = ap (λ t. f x ++ t) (chained_flat f xs)
+
+-- the next list finds room
+pub chained_room : {X : Type 0} (f : X → List ℕ) (xs : List X) (i : ℕ) (d : X) → i < length xs → length (chained (map f (take i xs))) + length (f (get_or xs i d)) ≤ length (chained (map f xs))
+chained_room f xs i d below =
+    omega (arith, length-flat_map-take f xs i d below, ap length (chained_flat f (take i xs)), ap length (chained_flat f xs))
+
+-- one list more
+pub chained_step : {X : Type 0} (f : X → List ℕ) (xs : List X) (i : ℕ) (d : X) → i < length xs → chained (map f (take (i + 1) xs)) ≡ chained (map f (take i xs)) ++ f (get_or xs i d)
+chained_step f xs i d below = ap chained (lists_more f xs i d below) ∙ chained-more (map f (take i xs)) (f (get_or xs i d))
+
+-- the first list is its own sum, and its own product
+pub sum_first : {X : Type 0} (m : ℕ) (f : X → List ℕ) (parts : List X) (d : X) (new : List ℕ) → 0 < length parts → new ≡ f (get_or parts 0 d) → All (λ x. x < m) new → new ≡ summed m (map f (take 1 parts))
+sum_first m f [] d new some is low = absurd (omega arith)
+sum_first m f (first ∷ rest) d new some is low = sym (summed-one m new low) ∙ ap (λ xs. summed m (xs ∷ [])) is
+
+pub product_first : {X : Type 0} (m : ℕ) (f : X → List ℕ) (parts : List X) (d : X) (new : List ℕ) → 0 < length parts → new ≡ f (get_or parts 0 d) → All (λ x. x < m) new → new ≡ multiplied m (map f (take 1 parts))
+product_first m f [] d new some is low = absurd (omega arith)
+product_first m f (first ∷ rest) d new some is low = sym (multiplied-one m new low) ∙ ap (λ xs. multiplied m (xs ∷ [])) is
+
+-- one list more
+pub sum_next : {X : Type 0} (m : ℕ) (f : X → List ℕ) (parts : List X) (i : ℕ) (d : X) (out new : List ℕ) → i + 1 < length parts → out ≡ summed m (map f (take (i + 1) parts))
+    → new ≡ summed m (out ∷ f (get_or parts (i + 1) d) ∷ []) → new ≡ summed m (map f (take (i + 1 + 1) parts))
+sum_next m f [] i d out new below so_far is = absurd (omega arith)
+sum_next m f (first ∷ rest) i d out new below so_far is =
+    let xs = f (get_or (first ∷ rest) (i + 1) d) in
+    let front : take (i + 1) (first ∷ rest) ≡ first ∷ take i rest = ap (λ n. take n (first ∷ rest)) (add-one i) in
+    is
+    ∙ ap (λ o. summed m (o ∷ xs ∷ [])) (so_far ∙ ap (λ ps. summed m (map f ps)) front)
+    ∙ summed-more m (f first) (map f (take i rest)) xs
+    ∙ ap (λ ps. summed m (map f ps ++ xs ∷ [])) (sym front)
+    ∙ ap (summed m) (sym (lists_more f (first ∷ rest) (i + 1) d below))
+
+pub product_next : {X : Type 0} (m : ℕ) (f : X → List ℕ) (parts : List X) (i : ℕ) (d : X) (out new : List ℕ) → i + 1 < length parts → out ≡ multiplied m (map f (take (i + 1) parts))
+    → new ≡ multiplied m (out ∷ f (get_or parts (i + 1) d) ∷ []) → new ≡ multiplied m (map f (take (i + 1 + 1) parts))
+product_next m f [] i d out new below so_far is = absurd (omega arith)
+product_next m f (first ∷ rest) i d out new below so_far is =
+    let xs = f (get_or (first ∷ rest) (i + 1) d) in
+    let front : take (i + 1) (first ∷ rest) ≡ first ∷ take i rest = ap (λ n. take n (first ∷ rest)) (add-one i) in
+    is
+    ∙ ap (λ o. multiplied m (o ∷ xs ∷ [])) (so_far ∙ ap (λ ps. multiplied m (map f ps)) front)
+    ∙ multiplied-more m (f first) (map f (take i rest)) xs
+    ∙ ap (λ ps. multiplied m (map f ps ++ xs ∷ [])) (sym front)
+    ∙ ap (multiplied m) (sym (lists_more f (first ∷ rest) (i + 1) d below))
+
+-- a place among the parts behind the first one
+pub behind_below : {X : Type 0} (parts : List X) (i : ℕ) → i < length (take (length parts - 1) (drop 1 parts)) → i + 1 < length parts
+behind_below parts i below = omega (arith, length-take (length parts - 1) (drop 1 parts))
+
+-- the parts behind the first one
+pub behind_first : {X : Type 0} (parts : List X) (i : ℕ) (d : X) → i < length (take (length parts - 1) (drop 1 parts)) → get_or (take (length parts - 1) (drop 1 parts)) i d ≡ get_or parts (i + 1) d
+behind_first parts i d below =
+    get_or-take (length parts - 1) (drop 1 parts) i d (omega (arith, behind_below parts i below)) ∙ get_or-drop 1 parts i d ∙ ap (λ n. get_or parts n d) (omega arith)
+
+-- what a source names holds residues
+pub named_residues : (m : ℕ) (inputs : List ℕ) (lists : List (List ℕ)) (from : Source) → All (λ x. x < m) inputs → All (λ list. All (λ x. x < m) list) lists → All (λ x. x < m) (named inputs lists from)
+named_residues m inputs lists source.Input low earlier = low
+named_residues m inputs lists (source.Node k) low earlier =
+    elim (cases_lt k (length lists)) [
+      | inl below ↦ All-get_or (λ list. All (λ x. x < m) list) lists k [] below earlier
+      | inr past ↦ All-same (λ x. x < m) _ _ (get_or_past lists k [] past) (All-nil (λ x. x < m))
+    ]
+
+-- and so do all lists that parts name
+pub parts_residues : {X : Type 0} (m : ℕ) (inputs : List ℕ) (lists : List (List ℕ)) (from : X → Source) (parts : List X) → All (λ x. x < m) inputs → All (λ list. All (λ x. x < m) list) lists → All (λ list. All (λ x. x < m) list) (map (λ part. named inputs lists (from part)) parts)
+parts_residues m inputs lists from [] low earlier = All-nil (λ list. All (λ x. x < m) list)
+parts_residues m inputs lists from (part ∷ parts) low earlier =
+    All-cons (λ list. All (λ x. x < m) list) _ _ (named_residues m inputs lists (from part) low earlier) (parts_residues m inputs lists from parts low earlier)

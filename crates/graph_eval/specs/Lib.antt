@@ -1,0 +1,5 @@
+pub mod Evaluated
+pub mod Fresh
+pub mod GraphValue
+pub mod Learned
+pub mod Reading

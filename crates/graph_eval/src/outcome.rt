@@ -1,0 +1,26 @@
+//! What a graph gives at a point.
+
+use thiserror::Error;
+
+/// Why a node has no value.
+#[derive(Clone, Copy, Debug, PartialEq, Eq, Error)]
+pub enum Cause {
+    /// A divisor is no unit.
+    #[error("a divisor is no unit")]
+    Division,
+}
+
+/// The first node of a graph, by its place counted from 0, that has no value at a point.
+#[derive(Clone, Copy, Debug, PartialEq, Eq)]
+pub struct Singular {
+    pub node: u32,
+    pub cause: Cause,
+}
+
+/// What a graph gives at a point: the list of its output, or a node without a value.
+#[derive(Clone, Copy, Debug, PartialEq, Eq)]
+pub enum Outcome {
+    /// The output has a list, which was written where the call was told to.
+    Defined,
+    Singular(Singular),
+}

@@ -1,0 +1,145 @@
+-- What a line says fits its pattern, and it has at most one more expression than bytes.
+use Rattle.std.proofs.Common.{◌≡◌, ◌≤◌, ◌+◌, ℕ, zero, suc, Bool, true, false, cond, refl, sym, ap, ◌∙◌, List, [], ◌∷◌, length, map, drop, Option, Some, None, option_map, arith, not, ◌==◌, bytes_eq, codes, IfSome}
+use Rattle.std.specs.List.{slice_split, list_all, position_or_len}
+use Rattle.std.specs.Option.{option_and_then}
+use Rattle.std.proofs.lemmas.List.{length-drop}
+use Rattle.std.proofs.lemmas.List.Splits.{length-slice_split}
+use Rattle.std.proofs.lemmas.List.Sums.{count_by-le-length}
+use Rattle.ratfun_text.specs.Bytes.{is_blank, is_name, trim_start}
+use Rattle.graph_file.specs.Formed.{IsFormed, IsWhole}
+use Rattle.graph_file.specs.Lines.{after_word, after_words, is_plain, words}
+use Rattle.graph_file.specs.declared.line.Line.{Line}
+use Rattle.graph_file.specs.declared.line.Line.TheVariants.{Flow, Graph, Input, Node, Point}
+use Rattle.graph_file.specs.declared.line.Statement.{Statement}
+use Rattle.graph_file.specs.declared.line.Statement.TheVariants.{Eval, Take, Matmul}
+use Rattle.graph_file.specs.Line.{all_of, entry_of, size_of, flow_line, graph_line, input_line, output_line, point_line, eval_node, take_node, part_before, parts_of, slice_node, slice_from, chain_node, sum_node, product_node, matmul_node, sides_of, statement_of, node_line, line_of_words, line_of}
+
+chosen : {A : Type 0} (P : A → Type 0) (b : Bool) (x y : Option A) → IfSome x P → IfSome y P → IfSome (cond b x y) P
+chosen P true x y first second = first
+chosen P false x y first second = second
+
+tested : {A : Type 0} (P : A → Type 0) (b : Bool) (x : Option A) → (b ≡ true → IfSome x P) → IfSome (cond b x None) P
+tested P true x first = first refl
+tested P false x first = tt
+
+made : {A B : Type 0} (P : B → Type 0) (make : A → B) (o : Option A) → ((a : A) → P (make a)) → IfSome (option_map make o) P
+made P make None each = tt
+made P make (Some a) each = each a
+
+after_word-shorter : (line : List ℕ) → length (after_word line) ≤ length line
+after_word-shorter line = omega (arith, length-drop (position_or_len is_blank (trim_start line)) (trim_start line), length-drop (position_or_len (λ byte. not (is_blank byte)) line) line)
+
+after_words-shorter : (k : ℕ) (line : List ℕ) → length (after_words k line) ≤ length line
+after_words-shorter zero line = omega arith
+after_words-shorter (suc k) line = omega (arith, after_word-shorter (after_words k line), after_words-shorter k line)
+
+module _ (n : ℕ) where
+  slices : (from : List ℕ) (first last : Option ℕ) → IfSome (slice_from from first last) (IsWhole n)
+  slices from None last = tt
+  slices from (Some first) None = tt
+  slices from (Some first) (Some last) = tt
+
+  parts : (list : List ℕ) (later : Option (List (List ℕ × ℕ))) (position : Option ℕ) → IfSome (option_map Take (option_and_then (part_before list later) position)) (IsWhole n)
+  parts list later None = tt
+  parts list None (Some position) = tt
+  parts list (Some later) (Some position) = omega arith
+
+  takes : (words : List (List ℕ)) → IfSome (take_node words) (IsWhole n)
+  takes [] = tt
+  takes (list ∷ []) = tt
+  takes (list ∷ position ∷ later) = parts list (parts_of later) (size_of position)
+
+  slice_nodes : (words : List (List ℕ)) → IfSome (slice_node words) (IsWhole n)
+  slice_nodes [] = tt
+  slice_nodes (a ∷ []) = tt
+  slice_nodes (a ∷ b ∷ []) = tt
+  slice_nodes (a ∷ b ∷ c ∷ []) = slices a (size_of b) (size_of c)
+  slice_nodes (a ∷ b ∷ c ∷ d ∷ later) = tt
+
+  chains : (words : List (List ℕ)) → IfSome (chain_node words) (IsWhole n)
+  chains [] = tt
+  chains (a ∷ later) = omega arith
+
+  sums : (words : List (List ℕ)) → IfSome (sum_node words) (IsWhole n)
+  sums [] = tt
+  sums (a ∷ later) = omega arith
+
+  products : (words : List (List ℕ)) → IfSome (product_node words) (IsWhole n)
+  products [] = tt
+  products (a ∷ later) = omega arith
+
+  matmuls : (words : List (List ℕ)) → IfSome (matmul_node words) (IsWhole n)
+  matmuls [] = tt
+  matmuls (a ∷ []) = tt
+  matmuls (a ∷ b ∷ sides) = made (IsWhole n) (λ (s : ℕ × ℕ × ℕ). Matmul a b s.0 s.1 s.2) (sides_of sides) (λ s. tt)
+
+  named : (name : List ℕ) (statement : Option Statement) → is_name name ≡ true → IfSome statement (IsWhole n) → IfSome (option_map (Node name) statement) (IsFormed n)
+  named name None is whole = tt
+  named name (Some statement) is whole = (is, whole)
+
+  flows : (words : List (List ℕ)) → IfSome (flow_line words) (IsFormed n)
+  flows [] = tt
+  flows (version ∷ []) = made (IsFormed n) Flow (entry_of version) (λ a. tt)
+  flows (a ∷ b ∷ later) = tt
+
+  graphs : (words : List (List ℕ)) → IfSome (graph_line words) (IsFormed n)
+  graphs [] = tt
+  graphs (name ∷ []) = tested (IsFormed n) (is_name name) (Some (Graph name)) (λ is. tt)
+  graphs (a ∷ b ∷ later) = tt
+
+  inputs : (words : List (List ℕ)) → IfSome (input_line words) (IsFormed n)
+  inputs [] = tt
+  inputs (name ∷ names) = tested (IsFormed n) (list_all is_name (name ∷ names)) (Some (Input (name ∷ names))) (λ are. (are, omega arith))
+
+  outputs : (words : List (List ℕ)) → IfSome (output_line words) (IsFormed n)
+  outputs [] = tt
+  outputs (list ∷ []) = tt
+  outputs (a ∷ b ∷ later) = tt
+
+  points : (words : List (List ℕ)) → IfSome (point_line words) (IsFormed n)
+  points [] = tt
+  points (entry ∷ entries) = made (IsFormed n) Point (all_of (map entry_of (entry ∷ entries))) (λ a. tt)
+
+evals : (line : List ℕ) (words : List (List ℕ)) → IfSome (eval_node line words) (IsWhole (length line + 1))
+evals line [] = tt
+evals line (from ∷ []) = tt
+evals line (from ∷ equals ∷ later) =
+    tested (IsWhole (length line + 1)) (bytes_eq equals (codes "=")) (Some (Eval from (slice_split (λ byte. byte == 59) (after_words 5 line))))
+    (λ is. (
+      omega (arith, length-slice_split (λ byte. byte == 59) (after_words 5 line)),
+      omega (arith, length-slice_split (λ byte. byte == 59) (after_words 5 line), count_by-le-length (λ byte. byte == 59) (after_words 5 line), after_words-shorter 5 line),
+    ))
+
+statements : (line kind : List ℕ) (words : List (List ℕ)) → IfSome (statement_of line kind words) (IsWhole (length line + 1))
+statements line kind words =
+    let n : ℕ = length line + 1 in
+    chosen (IsWhole n) (bytes_eq kind (codes "eval")) _ _ (evals line words)
+    (chosen (IsWhole n) (bytes_eq kind (codes "take")) _ _ (takes n words)
+    (chosen (IsWhole n) (bytes_eq kind (codes "slice")) _ _ (slice_nodes n words)
+    (chosen (IsWhole n) (bytes_eq kind (codes "chain")) _ _ (chains n words)
+    (chosen (IsWhole n) (bytes_eq kind (codes "sum")) _ _ (sums n words)
+    (chosen (IsWhole n) (bytes_eq kind (codes "product")) _ _ (products n words)
+    (chosen (IsWhole n) (bytes_eq kind (codes "matmul")) _ None (matmuls n words) tt))))))
+
+nodes : (line : List ℕ) (words : List (List ℕ)) → IfSome (node_line line words) (IsFormed (length line + 1))
+nodes line [] = tt
+nodes line (name ∷ []) = tt
+nodes line (name ∷ kind ∷ arguments) = tested (IsFormed (length line + 1)) (is_name name) _ (λ is. named (length line + 1) name (statement_of line kind arguments) is (statements line kind arguments))
+
+by_words : (line : List ℕ) (words : List (List ℕ)) → IfSome (line_of_words line words) (IsFormed (length line + 1))
+by_words line [] = tt
+by_words line (first ∷ later) =
+    let n : ℕ = length line + 1 in
+    chosen (IsFormed n) (bytes_eq first (codes "flow")) _ _ (flows n later)
+    (chosen (IsFormed n) (bytes_eq first (codes "graph")) _ _ (graphs n later)
+    (chosen (IsFormed n) (bytes_eq first (codes "input")) _ _ (inputs n later)
+    (chosen (IsFormed n) (bytes_eq first (codes "node")) _ _ (nodes line later)
+    (chosen (IsFormed n) (bytes_eq first (codes "output")) _ _ (outputs n later)
+    (chosen (IsFormed n) (bytes_eq first (codes "point")) _ None (points n later) tt)))))
+
+-- what a line says fits its pattern
+pub line-formed : (line : List ℕ) → IfSome (line_of line) (IsFormed (length line + 1))
+line-formed line = tested (IsFormed (length line + 1)) (is_plain line) (line_of_words line (words line)) (λ plain. by_words line (words line))
+
+pub said-formed : (line : List ℕ) (said : Option Line) → said ≡ line_of line → IfSome said (IsFormed (length line + 1))
+said-formed line said same = Rattle.std.proofs.Common.subst (λ (o : Option Line). IfSome o (IsFormed (length line + 1))) (sym same) (line-formed line)

@@ -1,0 +1,135 @@
+-- The job that the lines of a file ask for.
+use Rattle.std.proofs.Common.{◌≡◌, ◌<◌, ◌≤◌, ◌-◌, ℕ, zero, suc, Bool, true, false, refl, sym, ap, subst, ◌∙◌, List, [], ◌∷◌, ◌++◌, length, map, Option, Some, None, arith, option_map}
+use Rattle.std.specs.List.{slice_get}
+use Rattle.std.proofs.lemmas.Grind.{merely}
+use Rattle.std.proofs.lemmas.List.{length-map}
+use Rattle.std.proofs.lemmas.Option.{slice_get-map}
+use Rattle.ratfun_text.specs.Names.{names_of as variables_of}
+use Rattle.graph_file.specs.declared.graph.Graph.{Graph}
+use Rattle.graph_file.specs.declared.graph.Node.{Node}
+use Rattle.graph_file.specs.declared.graph.NodeKind.{NodeKind}
+use Rattle.graph_file.specs.declared.graph.Source.{Source}
+use Rattle.graph_file.specs.declared.graph.Source.TheVariants as source
+use Rattle.graph_file.specs.declared.reader.Reader.{Reader}
+use Rattle.graph_file.specs.File.{has_output, said}
+use Rattle.graph_file.specs.Lines.{lines}
+use Rattle.graph_file.specs.Marks.{AreMarkedFrom, IsSet, ReadEarlier}
+use Rattle.graph_file.specs.Needed.{IsNeededFor, Reads, kinds_of}
+use Rattle.graph_file.specs.Read.{IsRead}
+use Rattle.graph_file.specs.Reader.{AreVariables}
+use Rattle.graph_file.specs.Says.{AreKinds, Says, names_of}
+use Rattle.graph_file.specs.Sound.{IsGraph, IsJob, IsMarked, IsNode}
+use Rattle.graph_file.proofs.MarkLemmas.{set-needed}
+use Rattle.graph_file.proofs.SoundLemmas.{input_with_output}
+
+-- what an element was made of
+record IsMadeOf {X Y : Type 0} (f : X → Y) (xs : List X) (k : ℕ) (y : Y) : Type 0 where
+  from : X
+  there : slice_get xs k ≡ Some from
+  is : f from ≡ y
+
+made_of : {X Y : Type 0} (f : X → Y) (xs : List X) (k : ℕ) (y : Y) → slice_get (map f xs) k ≡ Some y → IsMadeOf f xs k y
+made_of f [] k y at = cc
+made_of f (x ∷ xs) zero y at = record { from = x; there = refl; is = let told : Some (f x) ≡ Some y = at in cc }
+made_of f (x ∷ xs) (suc k) y at = let later : IsMadeOf f xs k y = made_of f xs k y at in record { from = later.from; there = later.there; is = later.is }
+
+-- each node reads earlier ones
+pub read-earlier : (reader : Reader) (nodes : List Node) → nodes ≡ reader.nodes.items → ReadEarlier (kinds_of nodes)
+read-earlier reader nodes same j k kind at reads =
+    let made : IsMadeOf (λ (node : Node). node.kind) nodes j kind = made_of (λ (node : Node). node.kind) nodes j kind at in
+    let there : slice_get reader.nodes.items j ≡ Some made.from = ap (λ (l : List Node). slice_get l j) (sym same) ∙ made.there in
+    (reader.sound.are_nodes j made.from there).kind.earlier k (subst (λ (c : NodeKind). Reads c (source.Node k)) (sym made.is) reads)
+
+-- a node that was marked
+record WasMarked (reader : Reader) (k : ℕ) (node : Node) : Type 0 where
+  was : Node
+  there : slice_get reader.nodes.items k ≡ Some was
+  name_is : was.name ≡ node.name
+  kind_is : was.kind ≡ node.kind
+
+module _ (reader : Reader) (nodes : List Node) (names_are : names_of nodes ≡ names_of reader.nodes.items) (kinds_are : kinds_of nodes ≡ kinds_of reader.nodes.items) where
+  was-marked : (k : ℕ) (node : Node) → slice_get nodes k ≡ Some node → WasMarked reader k node
+  was-marked k node at =
+      let kind_at : slice_get (kinds_of reader.nodes.items) k ≡ Some node.kind = ap (λ l. slice_get l k) (sym kinds_are) ∙ slice_get-map (λ (n : Node). n.kind) nodes k ∙ ap (option_map (λ (n : Node). n.kind)) at in
+      let name_at : slice_get (names_of reader.nodes.items) k ≡ Some node.name = ap (λ l. slice_get l k) (sym names_are) ∙ slice_get-map (λ (n : Node). n.name) nodes k ∙ ap (option_map (λ (n : Node). n.name)) at in
+      let made : IsMadeOf (λ (n : Node). n.kind) reader.nodes.items k node.kind = made_of (λ (n : Node). n.kind) reader.nodes.items k node.kind kind_at in
+      let named : Some made.from.name ≡ Some node.name = ap (option_map (λ (n : Node). n.name)) (sym made.there) ∙ sym (slice_get-map (λ (n : Node). n.name) reader.nodes.items k) ∙ name_at in
+      record { was = made.from; there = made.there; name_is = cc; kind_is = made.is }
+
+  is-node : (k : ℕ) (node : Node) → slice_get nodes k ≡ Some node → IsNode (length (variables_of reader.variables)) k node
+  is-node k node at =
+      let marked : WasMarked reader k node = was-marked k node at in
+      let sound : IsNode (length (variables_of reader.variables)) k marked.was = reader.sound.are_nodes k marked.was marked.there in
+      record {
+        named = subst (λ n. Rattle.std.proofs.Common.IsTrue (Rattle.ratfun_text.specs.Bytes.is_name n)) marked.name_is sound.named;
+        no_input = λ same. sound.no_input (marked.name_is ∙ same);
+        kind = subst (λ (c : NodeKind). Rattle.graph_file.specs.Sound.IsKind (length (variables_of reader.variables)) k c) marked.kind_is sound.kind;
+      }
+
+  count_is : length nodes ≡ length reader.nodes.items
+  count_is = sym (length-map nodes (λ (n : Node). n.name)) ∙ ap length names_are ∙ length-map reader.nodes.items (λ (n : Node). n.name)
+
+  module _ (name : List ℕ) (output : Source) (flags : List Bool) (marks : AreMarkedFrom (kinds_of reader.nodes.items) output 0 flags) (marked : (k : ℕ) (node : Node) → slice_get nodes k ≡ Some node → slice_get flags k ≡ Some node.needed) where
+    abbrev made : Graph
+    made = record { name = name; inputs = variables_of reader.variables; nodes = nodes; output = output }
+
+    needed_of : (k : ℕ) (node : Node) → slice_get nodes k ≡ Some node → node.needed ≡ true → IsNeededFor (kinds_of nodes) output k
+    needed_of k node at is = subst (λ (l : List NodeKind). IsNeededFor l output k) (sym kinds_are) (marks.needed k (marked k node at ∙ ap (λ b. Some b) is))
+
+    marked_of : (k : ℕ) (node : Node) → slice_get nodes k ≡ Some node → IsNeededFor (kinds_of nodes) output k → node.needed ≡ true
+    marked_of k node at needed =
+        let set : IsSet flags k = set-needed (kinds_of reader.nodes.items) output flags marks k (subst (λ (l : List NodeKind). IsNeededFor l output k) kinds_are needed) in
+        let told : Some node.needed ≡ Some true = sym (marked k node at) ∙ set in
+        cc
+
+    pub graph-sound : has_output reader.stood ≡ true → reader.output ≡ Some output → IsGraph made
+    graph-sound ended output_is =
+        let variables : AreVariables (variables_of reader.variables) = reader.sound.inputs (input_with_output reader.stood ended) in
+        record {
+          some = variables.some;
+          few = variables.few;
+          variables = variables.are_names;
+          bounded = omega (arith, count_is, reader.sound.bounded);
+          nodes = is-node;
+          distinct = λ i j first second at_first at_second same.
+              let one : WasMarked reader i first = was-marked i first at_first in
+              let two : WasMarked reader j second = was-marked j second at_second in
+              let name_at : (k : ℕ) (n : Node) → slice_get reader.nodes.items k ≡ Some n → slice_get reader.table.names k ≡ Some n.name = λ k n at. ap (λ l. slice_get l k) (sym reader.sound.names_are) ∙ slice_get-map (λ (m : Node). m.name) reader.nodes.items k ∙ ap (option_map (λ (m : Node). m.name)) at in
+              let equal : two.was.name ≡ one.was.name = two.name_is ∙ sym same ∙ sym one.name_is in
+              reader.sound.distinct i j one.was.name (name_at i one.was one.there) (name_at j two.was two.there ∙ ap (λ n. Some n) equal);
+          marks = λ k node at. record { needed = λ is. merely (needed_of k node at is); marked = marked_of k node at };
+          output = λ k is. let below : k < length reader.nodes.items = reader.sound.output_is k (output_is ∙ ap (λ s. Some s) is) in omega (arith, below, count_is);
+        }
+
+    pub job-sound : (graphs : List Graph) → graphs ≡ made ∷ [] → has_output reader.stood ≡ true → reader.output ≡ Some output → IsJob graphs reader.points
+    job-sound graphs only ended output_is = subst (λ (l : List Graph). IsJob l reader.points) (sym only) (record {
+      main = omega arith;
+      bounded = omega arith;
+      graph = only_graph;
+      entries = λ k point graph at_point at_graph. let same : Some made ≡ Some graph = at_graph in let equal : made ≡ graph = cc in reader.sound.entries k point at_point ∙ ap (λ (g : Graph). length g.inputs) equal;
+    })
+      where
+        only_graph : (k : ℕ) (graph : Graph) → slice_get (made ∷ []) k ≡ Some graph → IsGraph graph
+        only_graph zero graph at = let same : Some made ≡ Some graph = at in let equal : made ≡ graph = cc in subst IsGraph equal (graph-sound ended output_is)
+        only_graph (suc k) graph at = cc
+
+    pub says-job : (graphs : List Graph) → graphs ≡ made ∷ [] → reader.name ≡ Some name → reader.output ≡ Some output → (bytes : List ℕ) → IsRead (said (lines bytes)) reader → Says bytes (record { graphs = graphs; points = reader.points })
+    says-job graphs only name_is output_is bytes read = record {
+      graph = made;
+      only = only;
+      says_graph = record {
+        named = sym read.name_is ∙ name_is;
+        inputs = ap variables_of read.variables_are;
+        names = names_are ∙ reader.sound.names_are ∙ read.names_are;
+        kinds = subst (λ (l : List NodeKind). AreKinds (said (lines bytes)) l) (sym kinds_are) read.kinds_are;
+        output_is = sym read.output_is ∙ output_is;
+        marks = λ k node at. (needed_of k node at, marked_of k node at);
+      };
+      points_are = read.points_are;
+    }
+
+-- the only graph
+pub one-graph : (name : List ℕ) (inputs given : List (List ℕ)) (nodes built : List Node) (output : Source) (before graphs : List Graph) → before ≡ [] → graphs ≡ before ++ (record { name = name; inputs = given; nodes = built; output = output }) ∷ [] → given ≡ inputs → built ≡ nodes → graphs ≡ (record { name = name; inputs = inputs; nodes = nodes; output = output }) ∷ []
+one-graph name inputs given nodes built output before graphs none pushed same_inputs same_nodes =
+    let with_parts : List (List ℕ) → List Node → List Graph = λ i n. (record { name = name; inputs = i; nodes = n; output = output }) ∷ [] in
+    pushed ∙ ap (λ (l : List Graph). l ++ with_parts given built) none ∙ ap (λ i. with_parts i built) same_inputs ∙ ap (λ (n : List Node). with_parts inputs n) same_nodes

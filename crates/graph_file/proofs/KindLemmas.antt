@@ -1,0 +1,393 @@
+-- What a node computes is sound.
+use Rattle.std.proofs.Common.{◌≡◌, ◌≢◌, ◌<◌, ◌≤◌, ◌+◌, ◌*◌, ℕ, zero, suc, Bool, true, false, not, ◌&&◌, cond, refl, sym, ap, subst, ◌∙◌, List, [], ◌∷◌, ◌++◌, length, map, Option, Some, None, arith, option_map, bytes_eq, codes, nat_le, All, get_or, position}
+use Rattle.std.specs.Option.{option_and_then}
+use Rattle.std.specs.List.{slice_get, list_all, list_any, AllZip}
+use Rattle.std.proofs.lemmas.Bool.Decides.{nat_tests}
+use Rattle.std.proofs.lemmas.List.Quantifiers.{position-Some}
+use Rattle.std.proofs.lemmas.Option.{get_or_from_slice_get, slice_get_within}
+use Rattle.ratfun_text.specs.Grammar.{IsTreeOf}
+use Rattle.ratfun_text.specs.Names.{last_argument}
+use Rattle.ratfun_text.specs.Value.{greatest}
+use Rattle.ratfun_text.specs.declared.expr.Expr.{Expr}
+use Rattle.ratfun_text.specs.declared.names.Names.TheVariants.{Listed, Numbered}
+use Rattle.graph_file.specs.Faults.{are_sides, is_in_range, is_known, is_position, is_product, is_range, lists_in, names_in, names_over}
+use Rattle.graph_file.specs.Formed.{IsWhole}
+use Rattle.graph_file.specs.Line.{all_of, texts_in}
+use Rattle.graph_file.specs.Says.{AreTrees, kind_of, part_named, source_named}
+use Rattle.graph_file.specs.Sound.{AreSides, IsKind, IsPosition}
+use Rattle.graph_file.specs.declared.graph.NodeKind.{NodeKind}
+use Rattle.graph_file.specs.declared.graph.NodeKind.TheVariants as node
+use Rattle.graph_file.specs.declared.graph.Source.{Source}
+use Rattle.graph_file.specs.declared.graph.Source.TheVariants as source
+use Rattle.graph_file.specs.declared.line.Line.TheVariants as line
+use Rattle.graph_file.specs.declared.line.Statement.{Statement}
+use Rattle.graph_file.specs.declared.line.Statement.TheVariants.{Eval, Take, Slice, Chain, Sum, Product, Matmul}
+use Rattle.graph_file.proofs.Passes.{both, list_all-at}
+use Rattle.graph_file.proofs.TableLemmas.{is_some-position}
+
+-- an answer that is there was made of one
+record IsMade {A B : Type 0} (make : A → B) (o : Option A) (made : B) : Type 0 where
+  from : A
+  there : o ≡ Some from
+  is : make from ≡ made
+
+made_of : {A B : Type 0} (make : A → B) (o : Option A) (made : B) → option_map make o ≡ Some made → IsMade make o made
+made_of make None made e = cc
+made_of make (Some a) made e = record { from = a; there = refl; is = let told : Some (make a) ≡ Some made = e in cc }
+
+-- the first answer and the others
+record IsCons {A : Type 0} (o : Option A) (later : List (Option A)) (answers : List A) : Type 0 where
+  head : A
+  tail : List A
+  first : o ≡ Some head
+  others : all_of later ≡ Some tail
+  whole : answers ≡ head ∷ tail
+
+cons_of : {A : Type 0} (o : Option A) (later : List (Option A)) (answers : List A) → all_of (o ∷ later) ≡ Some answers → IsCons o later answers
+cons_of None later answers e = cc
+cons_of (Some a) later answers e =
+    let made : IsMade (λ others. a ∷ others) (all_of later) answers = made_of (λ others. a ∷ others) (all_of later) answers e in
+    record { head = a; tail = made.from; first = refl; others = made.there; whole = sym made.is }
+
+-- an answer at a place is the answer to a question
+answered : {X A : Type 0} (P : A → Type 0) (ask : X → Option A) (xs : List X) (answers : List A) → all_of (map ask xs) ≡ Some answers → ((x : X) (a : A) → ask x ≡ Some a → P a) → (k : ℕ) (a : A) → slice_get answers k ≡ Some a → P a
+answered P ask [] answers e each k a at =
+    let same : [] ≡ answers = cc in
+    let none : slice_get [] k ≡ Some a = subst (λ l. slice_get l k ≡ Some a) (sym same) at in
+    cc
+answered {A = A} P ask (x ∷ xs) answers e each zero a at =
+    let parts : IsCons (ask x) (map ask xs) answers = cons_of (ask x) (map ask xs) answers e in
+    let head : Some parts.head ≡ Some a = subst (λ (l : List A). slice_get l 0 ≡ Some a) parts.whole at in
+    each x a (parts.first ∙ head)
+answered {A = A} P ask (x ∷ xs) answers e each (suc k) a at =
+    let parts : IsCons (ask x) (map ask xs) answers = cons_of (ask x) (map ask xs) answers e in
+    answered P ask xs parts.tail parts.others each k a (subst (λ (l : List A). slice_get l (suc k) ≡ Some a) parts.whole at)
+
+length-answers : {X A : Type 0} (ask : X → Option A) (xs : List X) (answers : List A) → all_of (map ask xs) ≡ Some answers → length answers ≡ length xs
+length-answers ask [] answers e = let same : [] ≡ answers = cc in ap length (sym same)
+length-answers ask (x ∷ xs) answers e =
+    let parts : IsCons (ask x) (map ask xs) answers = cons_of (ask x) (map ask xs) answers e in
+    ap length parts.whole ∙ ap suc (length-answers ask xs parts.tail parts.others)
+
+some_left : {X : Type 0} (xs : List X) → 1 ≤ length xs → xs ≡ [] → ⊥
+some_left xs some none = absurd (omega (arith, ap length none))
+
+only : {X : Type 0} (x : X) (i : ℕ) (y : X) → slice_get (x ∷ []) i ≡ Some y → x ≡ y
+only x zero y at = cc
+only x (suc i) y at = cc
+
+module _ (names : List (List ℕ)) where
+  -- a list that is a node's is an earlier node's
+  place_of : (o : Option ℕ) (k : ℕ) → option_map source.Node o ≡ Some (source.Node k) → o ≡ Some k
+  place_of None k e = cc
+  place_of (Some n) k e = cc
+
+  no_input : (o : Option ℕ) → option_map source.Node o ≡ Some source.Input → ⊥
+  no_input None e = cc
+  no_input (Some n) e = cc
+
+  pub source-earlier : (list : List ℕ) (k : ℕ) → source_named names list ≡ Some (source.Node k) → k < length names
+  source-earlier list k e = from (bytes_eq list (codes "input")) e
+    where
+      from : (b : Bool) → cond b (Some source.Input) (option_map source.Node (position (λ other. bytes_eq other list) names)) ≡ Some (source.Node k) → k < length names
+      from true f = cc
+      from false f = (position-Some (λ other. bytes_eq other list) names k [] (place_of _ k f)).0
+
+  pub source-input : (list : List ℕ) → source_named names list ≡ Some source.Input → bytes_eq list (codes "input") ≡ true
+  source-input list e = from (bytes_eq list (codes "input")) e
+    where
+      from : (b : Bool) → cond b (Some source.Input) (option_map source.Node (position (λ other. bytes_eq other list) names)) ≡ Some source.Input → b ≡ true
+      from true f = refl
+      from false f = absurd (no_input _ f)
+
+  -- what a node reads by one list, by two, or by many
+  abbrev IsEarlier : Source → Type 0
+  IsEarlier from = (k : ℕ) → from ≡ source.Node k → k < length names
+
+  named_earlier : (list : List ℕ) (from : Source) → source_named names list ≡ Some from → IsEarlier from
+  named_earlier list from e k is = source-earlier list k (e ∙ ap (λ s. Some s) is)
+
+  lists_earlier : (lists : List (List ℕ)) (sources : List Source) → all_of (map (source_named names) lists) ≡ Some sources → (k : ℕ) → ((i : ℕ) × (slice_get sources i ≡ Some (source.Node k))) → k < length names
+  lists_earlier lists sources e k reads = answered IsEarlier (source_named names) lists sources e named_earlier reads.0 (source.Node k) reads.1 k refl
+
+  part_earlier : (part : List ℕ × ℕ) (wanted : Source × ℕ) → part_named names part ≡ Some wanted → IsEarlier wanted.0
+  part_earlier part wanted e =
+      let made : IsMade (λ list. (list, part.1)) (source_named names part.0) wanted = made_of (λ list. (list, part.1)) (source_named names part.0) wanted e in
+      λ k is. source-earlier part.0 k (made.there ∙ ap (λ s. Some s) (ap (λ (w : Source × ℕ). w.0) made.is ∙ is))
+
+position_is : (n : ℕ) → is_position n ≡ true → IsPosition n
+position_is n e = let parts : (nat_le 1 n ≡ true) × (nat_le n 262144 ≡ true) = both _ _ e in record { first = grind (arith, nat_tests, parts.0); last = grind (arith, nat_tests, parts.1) }
+
+-- the kinds
+module _ (variables number : ℕ) where
+  eval_sound : (from : Source) (exprs : List Expr) → ((k : ℕ) → from ≡ source.Node k → k < number) → 1 ≤ length exprs → (from ≡ source.Input → (k : ℕ) (expr : Expr) → slice_get exprs k ≡ Some expr → greatest expr ≤ variables) → IsKind variables number (node.Eval from exprs)
+  eval_sound from exprs earlier some arguments = record {
+    earlier = λ k reads. earlier k (only from reads.0 (source.Node k) reads.1);
+    some = λ e. cc;
+    exprs = λ f is. some_left exprs some (let told : node.Eval from exprs ≡ node.Eval f [] = is in cc);
+    arguments = λ es is k expr at.
+        let told : node.Eval from exprs ≡ node.Eval source.Input es = is in
+        let input : from ≡ source.Input = cc in
+        let same : exprs ≡ es = cc in
+        arguments input k expr (ap (λ (l : List Expr). slice_get l k) same ∙ at);
+    positions = λ parts is. cc;
+    range = λ f first last is. cc;
+    sides = λ left right rows mid cols is. cc;
+  }
+
+  take_sound : (parts : List (Source × ℕ)) → ((k : ℕ) (part : Source × ℕ) → slice_get parts k ≡ Some part → (j : ℕ) → part.0 ≡ source.Node j → j < number) → 1 ≤ length parts → ((k : ℕ) (part : Source × ℕ) → slice_get parts k ≡ Some part → IsPosition part.1) → IsKind variables number (node.Take parts)
+  take_sound parts earlier some positions = record {
+    earlier = λ k reads. by_part parts earlier k reads.0 reads.1;
+    some = λ e. some_left parts some (empty parts e);
+    exprs = λ f is. cc;
+    arguments = λ es is. cc;
+    positions = λ ps is k part at. let told : node.Take parts ≡ node.Take ps = is in let same : parts ≡ ps = cc in positions k part (ap (λ (l : List (Source × ℕ)). slice_get l k) same ∙ at);
+    range = λ f first last is. cc;
+    sides = λ left right rows mid cols is. cc;
+  }
+    where
+      by_part : (ps : List (Source × ℕ)) → ((k : ℕ) (part : Source × ℕ) → slice_get ps k ≡ Some part → (j : ℕ) → part.0 ≡ source.Node j → j < number) → (k i : ℕ) → slice_get (map (λ part. part.0) ps) i ≡ Some (source.Node k) → k < number
+      by_part [] each k i at = cc
+      by_part (p ∷ ps) each k zero at = each 0 p refl k (let told : Some p.0 ≡ Some (source.Node k) = at in cc)
+      by_part (p ∷ ps) each k (suc i) at = by_part ps (λ n part is. each (suc n) part is) k i at
+
+      empty : (ps : List (Source × ℕ)) → map (λ part. part.0) ps ≡ [] → ps ≡ []
+      empty [] e = refl
+      empty (p ∷ ps) e = cc
+
+  slice_sound : (from : Source) (first last : ℕ) → ((k : ℕ) → from ≡ source.Node k → k < number) → (1 ≤ first) × (first ≤ last) × (last ≤ 262144) → IsKind variables number (node.Slice from first last)
+  slice_sound from first last earlier range = record {
+    earlier = λ k reads. earlier k (only from reads.0 (source.Node k) reads.1);
+    some = λ e. cc;
+    exprs = λ f is. cc;
+    arguments = λ es is. cc;
+    positions = λ parts is. cc;
+    range = λ f a b is.
+        let told : node.Slice from first last ≡ node.Slice f a b = is in
+        let same : first ≡ a = cc in
+        let end : last ≡ b = cc in
+        (omega (arith, range.0), omega (arith, range.1), omega (arith, range.2));
+    sides = λ left right rows mid cols is. cc;
+  }
+
+  chain_sound : (parts : List Source) → ((k : ℕ) → ((i : ℕ) × (slice_get parts i ≡ Some (source.Node k))) → k < number) → 1 ≤ length parts → IsKind variables number (node.Chain parts)
+  chain_sound parts earlier some = record {
+    earlier = earlier;
+    some = some_left parts some;
+    exprs = λ f is. cc;
+    arguments = λ es is. cc;
+    positions = λ ps is. cc;
+    range = λ f a b is. cc;
+    sides = λ left right rows mid cols is. cc;
+  }
+
+  sum_sound : (parts : List Source) → ((k : ℕ) → ((i : ℕ) × (slice_get parts i ≡ Some (source.Node k))) → k < number) → 1 ≤ length parts → IsKind variables number (node.Sum parts)
+  sum_sound parts earlier some = record {
+    earlier = earlier;
+    some = some_left parts some;
+    exprs = λ f is. cc;
+    arguments = λ es is. cc;
+    positions = λ ps is. cc;
+    range = λ f a b is. cc;
+    sides = λ left right rows mid cols is. cc;
+  }
+
+  product_sound : (parts : List Source) → ((k : ℕ) → ((i : ℕ) × (slice_get parts i ≡ Some (source.Node k))) → k < number) → 1 ≤ length parts → IsKind variables number (node.Product parts)
+  product_sound parts earlier some = record {
+    earlier = earlier;
+    some = some_left parts some;
+    exprs = λ f is. cc;
+    arguments = λ es is. cc;
+    positions = λ ps is. cc;
+    range = λ f a b is. cc;
+    sides = λ left right rows mid cols is. cc;
+  }
+
+  matmul_sound : (left right : Source) (rows mid cols : ℕ) → ((k : ℕ) → left ≡ source.Node k → k < number) → ((k : ℕ) → right ≡ source.Node k → k < number) → AreSides rows mid cols → IsKind variables number (node.Matmul left right rows mid cols)
+  matmul_sound left right rows mid cols left_earlier right_earlier sides = record {
+    earlier = λ k reads. by_place k reads.0 reads.1;
+    some = λ e. cc;
+    exprs = λ f is. cc;
+    arguments = λ es is. cc;
+    positions = λ ps is. cc;
+    range = λ f a b is. cc;
+    sides = λ l r a b c is.
+        let told : node.Matmul left right rows mid cols ≡ node.Matmul l r a b c = is in
+        let first : rows ≡ a = cc in
+        let second : mid ≡ b = cc in
+        let third : cols ≡ c = cc in
+        subst (λ (x : ℕ). AreSides x b c) first (subst (λ (y : ℕ). AreSides rows y c) second (subst (λ (z : ℕ). AreSides rows mid z) third sides));
+  }
+    where
+      by_place : (k i : ℕ) → slice_get (left ∷ right ∷ []) i ≡ Some (source.Node k) → k < number
+      by_place k zero at = left_earlier k (let told : Some left ≡ Some (source.Node k) = at in cc)
+      by_place k (suc i) at = right_earlier k (only right i (source.Node k) at)
+
+-- the question that an answer at a place answers
+record IsAsked {X A : Type 0} (ask : X → Option A) (xs : List X) (k : ℕ) (a : A) : Type 0 where
+  question : X
+  there : slice_get xs k ≡ Some question
+  answer : ask question ≡ Some a
+
+asked : {X A : Type 0} (ask : X → Option A) (xs : List X) (answers : List A) → all_of (map ask xs) ≡ Some answers → (k : ℕ) (a : A) → slice_get answers k ≡ Some a → IsAsked ask xs k a
+asked ask [] answers e k a at =
+    let same : [] ≡ answers = cc in
+    let none : slice_get [] k ≡ Some a = subst (λ l. slice_get l k ≡ Some a) (sym same) at in
+    cc
+asked {A = A} ask (x ∷ xs) answers e zero a at =
+    let parts : IsCons (ask x) (map ask xs) answers = cons_of (ask x) (map ask xs) answers e in
+    let head : Some parts.head ≡ Some a = subst (λ (l : List A). slice_get l 0 ≡ Some a) parts.whole at in
+    record { question = x; there = refl; answer = parts.first ∙ head }
+asked {A = A} ask (x ∷ xs) answers e (suc k) a at =
+    let parts : IsCons (ask x) (map ask xs) answers = cons_of (ask x) (map ask xs) answers e in
+    let later : IsAsked ask xs k a = asked ask xs parts.tail parts.others k a (subst (λ (l : List A). slice_get l (suc k) ≡ Some a) parts.whole at) in
+    record { question = later.question; there = later.there; answer = later.answer }
+
+zip_length : {X Y : Type 0} (R : X → Y → Type 0) (xs : List X) (ys : List Y) → AllZip R xs ys → length ys ≡ length xs
+zip_length R [] [] all = refl
+zip_length R [] (y ∷ ys) all = absurd all
+zip_length R (x ∷ xs) [] all = absurd all
+zip_length R (x ∷ xs) (y ∷ ys) all = ap suc (zip_length R xs ys all.1)
+
+range_is : (first last : ℕ) → is_range first last ≡ true → (1 ≤ first) × (first ≤ last) × (last ≤ 262144)
+range_is first last e =
+    let two : ((is_position first && is_position last) ≡ true) × (nat_le first last ≡ true) = both _ _ e in
+    let one : (is_position first ≡ true) × (is_position last ≡ true) = both _ _ two.0 in
+    let start : IsPosition first = position_is first one.0 in
+    let end : IsPosition last = position_is last one.1 in
+    (start.first, (let le : first ≤ last = grind (arith, nat_tests, two.1) in le), end.last)
+
+sides_are : (rows cols : ℕ) → are_sides rows cols ≡ true → rows * cols ≤ 262144
+sides_are rows cols e = grind (arith, nat_tests)
+
+product_is : (rows mid cols : ℕ) → is_product rows mid cols ≡ true → AreSides rows mid cols
+product_is rows mid cols e =
+    let five : ((is_position rows && is_position mid && is_position cols && are_sides rows cols && are_sides rows mid) ≡ true) × (are_sides mid cols ≡ true) = both _ _ e in
+    let four : ((is_position rows && is_position mid && is_position cols && are_sides rows cols) ≡ true) × (are_sides rows mid ≡ true) = both _ _ five.0 in
+    let three : ((is_position rows && is_position mid && is_position cols) ≡ true) × (are_sides rows cols ≡ true) = both _ _ four.0 in
+    let two : ((is_position rows && is_position mid) ≡ true) × (is_position cols ≡ true) = both _ _ three.0 in
+    let one : (is_position rows ≡ true) × (is_position mid ≡ true) = both _ _ two.0 in
+    record {
+      height = position_is rows one.0;
+      depth = position_is mid one.1;
+      width = position_is cols two.1;
+      whole = sides_are rows cols three.1;
+      left = sides_are rows mid four.1;
+      right = sides_are mid cols five.1;
+    }
+
+-- both lists of a product
+record AreMade (names : List (List ℕ)) (left right : Option Source) (rows mid cols : ℕ) (kind : NodeKind) : Type 0 where
+  first : Source
+  second : Source
+  left_is : left ≡ Some first
+  right_is : right ≡ Some second
+  is : node.Matmul first second rows mid cols ≡ kind
+
+matmul_made : (names : List (List ℕ)) (left right : Option Source) (rows mid cols : ℕ) (kind : NodeKind) → option_and_then (λ l. option_map (λ r. node.Matmul l r rows mid cols) right) left ≡ Some kind → AreMade names left right rows mid cols kind
+matmul_made names None right rows mid cols kind e = cc
+matmul_made names (Some l) right rows mid cols kind e =
+    let made : IsMade (λ r. node.Matmul l r rows mid cols) right kind = made_of (λ r. node.Matmul l r rows mid cols) right kind e in
+    record { first = l; second = made.from; left_is = refl; right_is = made.there; is = made.is }
+
+-- what a node computes is sound
+pub kind_sound : (names vs : List (List ℕ)) (exprs : List Expr) (name : List ℕ) (statement : Statement) (kind : NodeKind) (most : ℕ) → kind_of names exprs statement ≡ Some kind → IsWhole most statement → is_in_range statement ≡ true → AreTrees (names_in (Listed vs) (line.Node name statement)) (texts_in (line.Node name statement)) exprs → All (λ expr. greatest expr ≤ last_argument (names_in (Listed vs) (line.Node name statement))) exprs → IsKind (length vs) (length names) kind
+kind_sound names vs exprs name (Eval from texts) kind most e whole ranges trees arguments =
+    let made : IsMade (λ f. node.Eval f exprs) (source_named names from) kind = made_of (λ f. node.Eval f exprs) (source_named names from) kind e in
+    subst (IsKind (length vs) (length names)) made.is
+    (eval_sound (length vs) (length names) made.from exprs (named_earlier names from made.from made.there)
+    (let count : length exprs ≡ length texts = zip_length (IsTreeOf (names_over (Listed vs) from)) texts exprs trees in omega (arith, whole.0))
+    (λ input k expr at.
+    let is : bytes_eq from (codes "input") ≡ true = source-input names from (made.there ∙ ap (λ s. Some s) input) in
+    let over : names_over (Listed vs) from ≡ Listed vs = ap (λ b. cond b (Listed vs) Numbered) is in
+    let inside : k < length exprs = slice_get_within exprs k expr at in
+    let bound : greatest (get_or exprs k expr) ≤ last_argument (names_over (Listed vs) from) = arguments k expr inside in
+    let named : last_argument (names_over (Listed vs) from) ≡ length vs = ap last_argument over in
+    let read : greatest (get_or exprs k expr) ≡ greatest expr = ap greatest (get_or_from_slice_get exprs k expr expr at) in
+    omega (arith, bound, named, read)))
+kind_sound names vs exprs name (Take parts) kind most e whole ranges trees arguments =
+    let made : IsMade node.Take (all_of (map (part_named names) parts)) kind = made_of node.Take (all_of (map (part_named names) parts)) kind e in
+    subst (IsKind (length vs) (length names)) made.is
+    (take_sound (length vs) (length names) made.from
+    (λ k part at.
+    let question : IsAsked (part_named names) parts k part = asked (part_named names) parts made.from made.there k part at in
+    part_earlier names question.question part question.answer)
+    (omega (arith, whole, length-answers (part_named names) parts made.from made.there))
+    (λ k part at.
+    let question : IsAsked (part_named names) parts k part = asked (part_named names) parts made.from made.there k part at in
+    let in_range : is_position question.question.1 ≡ true = list_all-at (λ (p : List ℕ × ℕ). is_position p.1) parts ranges k question.question question.there in
+    let same : IsMade (λ list. (list, question.question.1)) (source_named names question.question.0) part = made_of (λ list. (list, question.question.1)) (source_named names question.question.0) part question.answer in
+    subst IsPosition (ap (λ (w : Source × ℕ). w.1) same.is) (position_is question.question.1 in_range)))
+kind_sound names vs exprs name (Slice from first last) kind most e whole ranges trees arguments =
+    let made : IsMade (λ f. node.Slice f first last) (source_named names from) kind = made_of (λ f. node.Slice f first last) (source_named names from) kind e in
+    subst (IsKind (length vs) (length names)) made.is
+    (slice_sound (length vs) (length names) made.from first last (named_earlier names from made.from made.there) (range_is first last ranges))
+kind_sound names vs exprs name (Chain parts) kind most e whole ranges trees arguments =
+    let made : IsMade node.Chain (all_of (map (source_named names) parts)) kind = made_of node.Chain (all_of (map (source_named names) parts)) kind e in
+    subst (IsKind (length vs) (length names)) made.is
+    (chain_sound (length vs) (length names) made.from (lists_earlier names parts made.from made.there) (omega (arith, whole, length-answers (source_named names) parts made.from made.there)))
+kind_sound names vs exprs name (Sum parts) kind most e whole ranges trees arguments =
+    let made : IsMade node.Sum (all_of (map (source_named names) parts)) kind = made_of node.Sum (all_of (map (source_named names) parts)) kind e in
+    subst (IsKind (length vs) (length names)) made.is
+    (sum_sound (length vs) (length names) made.from (lists_earlier names parts made.from made.there) (omega (arith, whole, length-answers (source_named names) parts made.from made.there)))
+kind_sound names vs exprs name (Product parts) kind most e whole ranges trees arguments =
+    let made : IsMade node.Product (all_of (map (source_named names) parts)) kind = made_of node.Product (all_of (map (source_named names) parts)) kind e in
+    subst (IsKind (length vs) (length names)) made.is
+    (product_sound (length vs) (length names) made.from (lists_earlier names parts made.from made.there) (omega (arith, whole, length-answers (source_named names) parts made.from made.there)))
+kind_sound names vs exprs name (Matmul left right rows mid cols) kind most e whole ranges trees arguments =
+    let made : AreMade names (source_named names left) (source_named names right) rows mid cols kind = matmul_made names (source_named names left) (source_named names right) rows mid cols kind e in
+    subst (IsKind (length vs) (length names)) made.is
+    (matmul_sound (length vs) (length names) made.first made.second rows mid cols (named_earlier names left made.first made.left_is) (named_earlier names right made.second made.right_is) (product_is rows mid cols ranges))
+
+-- known lists have their nodes
+option_none : {A B : Type 0} (make : A → B) (o : Option A) → option_map make o ≡ None → o ≡ None
+option_none make None e = refl
+option_none make (Some a) e = cc
+
+contradiction : (o : Option ℕ) → Rattle.std.proofs.Common.is_some o ≡ true → o ≡ None → ⊥
+contradiction None some none = cc
+contradiction (Some n) some none = cc
+
+pub source-known : (names : List (List ℕ)) (list : List ℕ) → is_known names list ≡ true → source_named names list ≡ None → ⊥
+source-known names list known none = from (bytes_eq list (codes "input")) known none
+  where
+    from : (b : Bool) → (Rattle.std.proofs.Common.◌||◌ b (list_any (λ other. bytes_eq other list) names)) ≡ true → cond b (Some source.Input) (option_map source.Node (position (λ other. bytes_eq other list) names)) ≡ None → ⊥
+    from true e f = cc
+    from false e f =
+        let missing : position (λ other. bytes_eq other list) names ≡ None = option_none source.Node _ f in
+        let told : Rattle.std.proofs.Common.is_some (position (λ other. bytes_eq other list) names) ≡ true = is_some-position (λ other. bytes_eq other list) names ∙ e in
+        contradiction (position (λ other. bytes_eq other list) names) told missing
+
+first_there : {A : Type 0} (o : Option A) (later : List (Option A)) → all_of (o ∷ later) ≡ None → (o ≡ None → ⊥) → (all_of later ≡ None → ⊥) → ⊥
+first_there None later e first others = first refl
+first_there (Some a) later e first others = others (option_none (λ answers. a ∷ answers) (all_of later) e)
+
+answers-there : {X A : Type 0} (ask : X → Option A) (test : X → Bool) (xs : List X) → ((x : X) → test x ≡ true → ask x ≡ None → ⊥) → list_all test xs ≡ true → all_of (map ask xs) ≡ None → ⊥
+answers-there ask test [] each all none = cc
+answers-there ask test (x ∷ xs) each all none =
+    let parts : (test x ≡ true) × (list_all test xs ≡ true) = both (test x) _ all in
+    first_there (ask x) (map ask xs) none (each x parts.0) (answers-there ask test xs each parts.1)
+
+list_all-parts : (test : List ℕ → Bool) (parts : List (List ℕ × ℕ)) → list_all test (map (λ part. part.0) parts) ≡ true → list_all (λ (part : List ℕ × ℕ). test part.0) parts ≡ true
+list_all-parts test [] e = refl
+list_all-parts test (p ∷ ps) e = let two : (test p.0 ≡ true) × (list_all test (map (λ part. part.0) ps) ≡ true) = both (test p.0) _ e in
+    ap (λ b. b && list_all (λ (part : List ℕ × ℕ). test part.0) ps) two.0 ∙ list_all-parts test ps two.1
+
+part-known : (names : List (List ℕ)) (part : List ℕ × ℕ) → is_known names part.0 ≡ true → part_named names part ≡ None → ⊥
+part-known names part known none = source-known names part.0 known (option_none (λ (list : Source). (list, part.1)) (source_named names part.0) none)
+
+matmul_none : (left right : Option Source) (rows mid cols : ℕ) → option_and_then (λ l. option_map (λ r. node.Matmul l r rows mid cols) right) left ≡ None → (left ≡ None → ⊥) → (right ≡ None → ⊥) → ⊥
+matmul_none None right rows mid cols e first second = first refl
+matmul_none (Some l) None rows mid cols e first second = second refl
+matmul_none (Some l) (Some r) rows mid cols e first second = cc
+
+pub kind-there : (names : List (List ℕ)) (exprs : List Expr) (statement : Statement) → list_all (is_known names) (lists_in statement) ≡ true → kind_of names exprs statement ≡ None → ⊥
+kind-there names exprs (Eval from texts) known none = source-known names from (both _ true known).0 (option_none _ (source_named names from) none)
+kind-there names exprs (Take parts) known none = answers-there (part_named names) (λ (part : List ℕ × ℕ). is_known names part.0) parts (part-known names) (list_all-parts (is_known names) parts known) (option_none node.Take _ none)
+kind-there names exprs (Slice from first last) known none = source-known names from (both _ true known).0 (option_none _ (source_named names from) none)
+kind-there names exprs (Chain parts) known none = answers-there (source_named names) (is_known names) parts (source-known names) known (option_none node.Chain _ none)
+kind-there names exprs (Sum parts) known none = answers-there (source_named names) (is_known names) parts (source-known names) known (option_none node.Sum _ none)
+kind-there names exprs (Product parts) known none = answers-there (source_named names) (is_known names) parts (source-known names) known (option_none node.Product _ none)
+kind-there names exprs (Matmul left right rows mid cols) known none =
+    let two : (is_known names left ≡ true) × ((is_known names right && true) ≡ true) = both (is_known names left) _ known in
+    matmul_none (source_named names left) (source_named names right) rows mid cols none (source-known names left two.0) (source-known names right (both (is_known names right) true two.1).0)

@@ -1,0 +1,210 @@
+-- What holds of a line with which nothing is wrong, its expressions apart.
+use Rattle.std.proofs.Common.{◌≡◌, ◌≤◌, ℕ, zero, suc, Bool, true, false, not, ◌&&◌, ◌||◌, cond, refl, sym, ap, subst, List, [], ◌∷◌, ◌++◌, length, Option, Some, None, arith, bytes_eq, nat_le, ◌==◌}
+use Rattle.std.specs.List.{slice_get, slice_index, list_any, list_all}
+use Rattle.std.proofs.lemmas.Bool.Decides.{nat_tests}
+use Rattle.std.proofs.lemmas.Option.{slice_get-get_or}
+use Rattle.std.proofs.lemmas.Slice.Eq.{bytes_eq-Decides}
+use Rattle.ratfun_text.specs.Bytes.{is_name}
+use Rattle.graph_file.specs.declared.error.FileKind.{FileKind}
+use Rattle.graph_file.specs.declared.error.FileKind.TheVariants.{Syntax, Version, Repeated, UnknownNode, Residue, Limit}
+use Rattle.graph_file.specs.declared.line.Last.{Last}
+use Rattle.graph_file.specs.declared.line.Last.TheVariants as last
+use Rattle.graph_file.specs.declared.line.Line.{Line}
+use Rattle.graph_file.specs.declared.line.Line.TheVariants.{Flow, Graph, Input, Node, Output, Point}
+use Rattle.graph_file.specs.declared.line.Statement.{Statement}
+use Rattle.graph_file.specs.Faults.{are_new, fault_after, fits, is_entry, is_limit, is_repeated, is_residue, is_short, is_syntax, is_unknown_node, is_version, may_stand}
+use Rattle.graph_file.specs.File.{has_output}
+use Rattle.poly_maps.specs.Point.{IsPoint}
+use Rattle.graph_file.specs.Reader.{AreVariables, has_input, has_name}
+
+pub both : (a b : Bool) → (a && b) ≡ true → (a ≡ true) × (b ≡ true)
+both true b e = (refl, e)
+both false b e = cc
+
+pub neither : (a b : Bool) → (a || b) ≡ false → (a ≡ false) × (b ≡ false)
+neither true b e = cc
+neither false b e = (refl, e)
+
+pub not_false : (b : Bool) → not b ≡ false → b ≡ true
+not_false true e = refl
+not_false false e = cc
+
+pub next : (b : Bool) (kind : FileKind) (later : Option FileKind) → cond b (Some kind) later ≡ None → (b ≡ false) × (later ≡ None)
+next true kind later e = cc
+next false kind later e = (refl, e)
+
+-- each test is passed
+pub record Passes (stood : Last) (variables : ℕ) (nodes : List (List ℕ)) (points : ℕ) (line : Line) : Type 0 where
+  pub stands : may_stand stood line ≡ true
+  pub fitting : fits variables line ≡ true
+  pub first : is_version line ≡ false
+  pub is_new : is_repeated nodes line ≡ false
+  pub known : is_unknown_node nodes line ≡ false
+  pub residues : is_residue line ≡ false
+  pub limits : is_limit (length nodes) points line ≡ false
+
+pub passes : (stood : Last) (variables : ℕ) (nodes : List (List ℕ)) (points : ℕ) (line : Line) → fault_after stood variables nodes points line ≡ None → Passes stood variables nodes points line
+passes stood variables nodes points line e =
+    let (syntax, after_syntax) = next (is_syntax stood variables line) Syntax _ e in
+    let (version, after_version) = next (is_version line) Version _ after_syntax in
+    let (repeated, after_repeated) = next (is_repeated nodes line) Repeated _ after_version in
+    let (unknown, after_unknown) = next (is_unknown_node nodes line) UnknownNode _ after_repeated in
+    let (residue, after_residue) = next (is_residue line) Residue _ after_unknown in
+    let (limit, _) = next (is_limit (length nodes) points line) Limit None after_residue in
+    let parts : (not (may_stand stood line) ≡ false) × (not (fits variables line) ≡ false) = neither _ _ syntax in
+    record {
+      stands = not_false _ parts.0;
+      fitting = not_false _ parts.1;
+      first = version;
+      is_new = repeated;
+      known = unknown;
+      residues = residue;
+      limits = limit;
+    }
+
+-- where lines may stand
+pub stands-flow : (stood : Last) (version : ℕ) → may_stand stood (Flow version) ≡ true → has_input stood ≡ false
+stands-flow last.Start version e = refl
+stands-flow last.Flow version e = refl
+stands-flow last.Graph version e = refl
+stands-flow last.Input version e = cc
+stands-flow last.Node version e = cc
+stands-flow last.Output version e = cc
+stands-flow last.Point version e = cc
+
+pub stands-graph : (stood : Last) (name : List ℕ) → may_stand stood (Graph name) ≡ true → has_input stood ≡ false
+stands-graph last.Start name e = refl
+stands-graph last.Flow name e = refl
+stands-graph last.Graph name e = refl
+stands-graph last.Input name e = cc
+stands-graph last.Node name e = cc
+stands-graph last.Output name e = cc
+stands-graph last.Point name e = cc
+
+pub stands-input : (stood : Last) (names : List (List ℕ)) → may_stand stood (Input names) ≡ true → (has_name stood ≡ true) × (has_input stood ≡ false)
+stands-input last.Start names e = cc
+stands-input last.Flow names e = cc
+stands-input last.Graph names e = (refl, refl)
+stands-input last.Input names e = cc
+stands-input last.Node names e = cc
+stands-input last.Output names e = cc
+stands-input last.Point names e = cc
+
+pub stands-node : (stood : Last) (name : List ℕ) (statement : Statement) → may_stand stood (Node name statement) ≡ true → has_input stood ≡ true
+stands-node last.Start name statement e = cc
+stands-node last.Flow name statement e = cc
+stands-node last.Graph name statement e = cc
+stands-node last.Input name statement e = refl
+stands-node last.Node name statement e = refl
+stands-node last.Output name statement e = cc
+stands-node last.Point name statement e = cc
+
+pub stands-output : (stood : Last) (list : List ℕ) → may_stand stood (Output list) ≡ true → has_input stood ≡ true
+stands-output last.Start list e = cc
+stands-output last.Flow list e = cc
+stands-output last.Graph list e = cc
+stands-output last.Input list e = refl
+stands-output last.Node list e = refl
+stands-output last.Output list e = cc
+stands-output last.Point list e = cc
+
+pub stands-point : (stood : Last) (entries : List ℕ) → may_stand stood (Point entries) ≡ true → has_output stood ≡ true
+stands-point last.Start entries e = cc
+stands-point last.Flow entries e = cc
+stands-point last.Graph entries e = cc
+stands-point last.Input entries e = cc
+stands-point last.Node entries e = cc
+stands-point last.Output entries e = refl
+stands-point last.Point entries e = refl
+
+-- what passes for each element passes for the one at a place
+pub list_all-at : {X : Type 0} (test : X → Bool) (xs : List X) → list_all test xs ≡ true → (k : ℕ) (x : X) → slice_get xs k ≡ Some x → test x ≡ true
+list_all-at test [] all k x at = cc
+list_all-at test (y ∷ ys) all zero x at = let same : y ≡ x = cc in subst (λ z. test z ≡ true) same (both (test y) _ all).0
+list_all-at test (y ∷ ys) all (suc k) x at = list_all-at test ys (both (test y) _ all).1 k x at
+
+-- a name that stands at a place is among the names
+pub among : (names : List (List ℕ)) (k : ℕ) (name : List ℕ) → slice_get names k ≡ Some name → list_any (λ other. bytes_eq other name) names ≡ true
+among [] k name at = cc
+among (other ∷ names) zero name at = let same : other ≡ name = cc in ap (λ b. b || list_any (λ x. bytes_eq x name) names) ((bytes_eq-Decides other name).1 same)
+among (other ∷ names) (suc k) name at = either (bytes_eq other name) _ (among names k name at)
+  where
+    either : (a b : Bool) → b ≡ true → (a || b) ≡ true
+    either true b e = refl
+    either false b e = e
+
+-- a name that is among those before is not new
+never_new : (before later : List (List ℕ)) (name : List ℕ) → list_any (λ other. bytes_eq other name) before ≡ true → (j : ℕ) → slice_get later j ≡ Some name → are_new before later ≡ true → ⊥
+never_new before [] name there j at fresh = cc
+never_new before (head ∷ later) name there zero at fresh =
+    let same : head ≡ name = cc in
+    let first : not (list_any (λ other. bytes_eq other head) before) ≡ true = (both _ (are_new (before ++ head ∷ []) later) fresh).0 in
+    let known : list_any (λ other. bytes_eq other head) before ≡ true = subst (λ l. list_any (λ other. bytes_eq other l) before ≡ true) (sym same) there in
+    let never : not true ≡ true = subst (λ b. not b ≡ true) known first in
+    cc
+never_new before (head ∷ later) name there (suc j) at fresh =
+    never_new (before ++ head ∷ []) later name (kept before) j at (both _ (are_new (before ++ head ∷ []) later) fresh).1
+  where
+    either : (a b : Bool) → b ≡ true → (a || b) ≡ true
+    either true b e = refl
+    either false b e = e
+
+    onto : (names : List (List ℕ)) → list_any (λ other. bytes_eq other name) names ≡ true → list_any (λ other. bytes_eq other name) (names ++ head ∷ []) ≡ true
+    onto [] e = cc
+    onto (x ∷ xs) e = step (bytes_eq x name) _ _ e (onto xs)
+      where
+        step : (a b c : Bool) → (a || b) ≡ true → (b ≡ true → c ≡ true) → (a || c) ≡ true
+        step true b c f g = refl
+        step false b c f g = g f
+
+    kept : (names : List (List ℕ)) → list_any (λ other. bytes_eq other name) (before ++ head ∷ []) ≡ true
+    kept names = onto before there
+
+at_end : (before : List (List ℕ)) (name : List ℕ) → list_any (λ other. bytes_eq other name) (before ++ name ∷ []) ≡ true
+at_end [] name = ap (λ b. b || false) ((bytes_eq-Decides name name).1 refl)
+at_end (x ∷ xs) name = either (bytes_eq x name) _ (at_end xs name)
+  where
+    either : (a b : Bool) → b ≡ true → (a || b) ≡ true
+    either true b e = refl
+    either false b e = e
+
+-- names that are new stand at one place each
+distinct_at : (before names : List (List ℕ)) → are_new before names ≡ true → (i j : ℕ) (name : List ℕ) → slice_get names i ≡ Some name → slice_get names j ≡ Some name → i ≡ j
+distinct_at before [] fresh i j name first second = cc
+distinct_at before (head ∷ later) fresh zero zero name first second = refl
+distinct_at before (head ∷ later) fresh zero (suc j) name first second =
+    let same : head ≡ name = cc in
+    absurd (never_new (before ++ head ∷ []) later name (subst (λ l. list_any (λ other. bytes_eq other l) (before ++ head ∷ []) ≡ true) same (at_end before head)) j second (both _ (are_new (before ++ head ∷ []) later) fresh).1)
+distinct_at before (head ∷ later) fresh (suc i) zero name first second =
+    let same : head ≡ name = cc in
+    absurd (never_new (before ++ head ∷ []) later name (subst (λ l. list_any (λ other. bytes_eq other l) (before ++ head ∷ []) ≡ true) same (at_end before head)) i first (both _ (are_new (before ++ head ∷ []) later) fresh).1)
+distinct_at before (head ∷ later) fresh (suc i) (suc j) name first second =
+    ap suc (distinct_at (before ++ head ∷ []) later (both _ (are_new (before ++ head ∷ []) later) fresh).1 i j name first second)
+
+-- the names of an `input` line are variables
+pub variables-passed : (stood : Last) (variables : ℕ) (nodes : List (List ℕ)) (points : ℕ) (names : List (List ℕ)) → Passes stood variables nodes points (Input names) → list_all is_name names ≡ true → 1 ≤ length names → AreVariables names
+variables-passed stood variables nodes points names pass are some =
+    let limits : (list_all is_short names && nat_le (length names) 8) ≡ true = not_false _ pass.limits in
+    let count : nat_le (length names) 8 ≡ true = (both _ _ limits).1 in
+    record {
+      some = some;
+      few = grind (arith, nat_tests);
+      are_names = record {
+        named = λ k name at. list_all-at is_name names are k name at;
+        distinct = distinct_at [] names (not_false _ pass.is_new);
+      };
+    }
+
+-- the entries of a `point` line are those of a point
+pub point-passed : (stood : Last) (variables : ℕ) (nodes : List (List ℕ)) (points : ℕ) (entries : List ℕ) → Passes stood variables nodes points (Point entries) → (1 ≤ variables) × (variables ≤ 8) → (length entries ≡ variables) × IsPoint entries
+point-passed stood variables nodes points entries pass within =
+    let count : (length entries == variables) ≡ true = pass.fitting in
+    let same : length entries ≡ variables = grind (arith, nat_tests) in
+    let residues : list_all is_entry entries ≡ true = not_false _ pass.residues in (
+      same,
+      record {
+        some = omega (arith, within.0);
+        few = omega (arith, within.1);
+        below = λ k inside. let below : is_entry (slice_index entries k) ≡ true = list_all-at is_entry entries residues k (slice_index entries k) (slice_get-get_or entries k 0 inside) in grind (arith, nat_tests);
+      },
+    )

@@ -1,5 +1,0 @@
-use Rattle.graph_file.proofs.PointLemmas.{IsStored-written}
-use Rattle.graph_file.proofs.point.Point.of.Goals as goal
-
-pub invariant_of-result : goal.invariant_of-result
-invariant_of-result c = IsStored-written c.copy_from_slice.new.self c.args.entries.now c.copy_from_slice.ensures.after c.requires

@@ -1,0 +1,76 @@
+-- What is told of a file.
+use Rattle.std.specs.Prelude.{ℕ, ◌≡◌, ◌+◌, ◌<◌, Bool, true, false, ◌&&◌, nat_lt, List, length, take, reverse, filter_map, Some, slice_get}
+use Rattle.graph_file.specs.declared.error.FileError.{FileError}
+use Rattle.graph_file.specs.declared.error.FileKind.{FileKind}
+use Rattle.graph_file.specs.declared.error.FileKind.TheVariants.{Missing, NoMemory}
+use Rattle.graph_file.specs.declared.line.Last.{Last}
+use Rattle.graph_file.specs.declared.line.Last.TheVariants as last
+use Rattle.graph_file.specs.declared.line.Line.{Line}
+use Rattle.graph_file.specs.Faults.{IsBadLine, IsGoodLine, last_of}
+use Rattle.graph_file.specs.Line.{line_of}
+use Rattle.graph_file.specs.Lines.{lines, kept, is_passed_over}
+
+-- what lines say, those that are passed over left out, the last one first
+abbrev pub said : List (List ℕ) → List Line
+said all = reverse (filter_map line_of (kept all))
+
+-- the line is passed over; the first line, at place 0, never is
+abbrev pub is_idle_at : ℕ → List ℕ → Bool
+is_idle_at place line = nat_lt 0 place && is_passed_over line
+
+-- nothing is wrong with the line at this place, counted from 0
+abbrev pub IsGoodAt : List (List ℕ) → ℕ → Type 0
+IsGoodAt all place = (line : List ℕ) → slice_get all place ≡ Some line → is_idle_at place line ≡ false → IsGoodLine (said (take place all)) (line_of line)
+
+-- this is wrong with the line at this place, counted from 0
+pub record IsBadAt (all : List (List ℕ)) (place : ℕ) (kind : FileKind) : Type 0 where
+  pub line : List ℕ
+  pub there : slice_get all place ≡ Some line
+  pub counts : is_idle_at place line ≡ false
+  pub bad : IsBadLine (said (take place all)) (line_of line) kind
+
+-- nothing is wrong with the first lines, as many as this
+abbrev pub AreGood : List (List ℕ) → ℕ → Type 0
+AreGood all count = (place : ℕ) → place < count → IsGoodAt all place
+
+-- the graph's `output` has stood
+abbrev pub has_output : Last → Bool
+has_output last.Start = false
+has_output last.Flow = false
+has_output last.Graph = false
+has_output last.Input = false
+has_output last.Node = false
+has_output last.Output = true
+has_output last.Point = true
+
+-- the line with this number, counted from 1, is the first with which something is wrong, and this is what
+pub record IsFirstBadLine (all : List (List ℕ)) (number : ℕ) (kind : FileKind) : Type 0 where
+  pub place : ℕ
+  pub counted : number ≡ place + 1
+  pub bad : IsBadAt all place kind
+  pub before : AreGood all place
+
+-- nothing is wrong with any line, but the file ends with the line of this number before the graph's `output`
+pub record IsCutOff (all : List (List ℕ)) (number : ℕ) : Type 0 where
+  pub counted : number ≡ length all
+  pub good : AreGood all (length all)
+  pub ended : has_output (last_of (said all)) ≡ false
+
+-- what is told of the lines of a file
+abbrev pub IsTold : List (List ℕ) → ℕ → FileKind → Type 0
+IsTold all number Missing = IsCutOff all number
+IsTold all number kind = IsFirstBadLine all number kind
+
+-- this is told of a file, with the number of a line, counted from 1
+abbrev pub IsFirstBad : List ℕ → ℕ → FileKind → Type 0
+IsFirstBad bytes number kind = IsTold (lines bytes) number kind
+
+-- nothing is wrong with a file
+pub record IsGoodFile (bytes : List ℕ) : Type 0 where
+  pub good : AreGood (lines bytes) (length (lines bytes))
+  pub ended : has_output (last_of (said (lines bytes))) ≡ true
+
+-- what is told of the line at this place, counted from 0
+abbrev pub told : ℕ → FileKind → FileError
+told place NoMemory = record { line = 0; kind = NoMemory }
+told place kind = record { line = place + 1; kind = kind }

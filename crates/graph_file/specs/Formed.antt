@@ -1,0 +1,27 @@
+-- What holds of what a line says, because it fits its pattern.
+use Rattle.std.specs.Prelude.{ℕ, ◌≡◌, ◌≤◌, true, length}
+use Rattle.std.specs.List.{list_all}
+use Rattle.ratfun_text.specs.Bytes.{is_name}
+use Rattle.graph_file.specs.declared.line.Line.{Line}
+use Rattle.graph_file.specs.declared.line.Line.TheVariants.{Flow, Graph, Input, Node, Output, Point}
+use Rattle.graph_file.specs.declared.line.Statement.{Statement}
+use Rattle.graph_file.specs.declared.line.Statement.TheVariants.{Eval, Take, Slice, Chain, Sum, Product, Matmul}
+
+-- there is something in each list, and there are at most so many expressions
+abbrev pub IsWhole : ℕ → Statement → Type 0
+IsWhole most (Eval from texts) = (1 ≤ length texts) × (length texts ≤ most)
+IsWhole most (Take parts) = 1 ≤ length parts
+IsWhole most (Slice from first last) = Unit {0}
+IsWhole most (Chain parts) = 1 ≤ length parts
+IsWhole most (Sum parts) = 1 ≤ length parts
+IsWhole most (Product parts) = 1 ≤ length parts
+IsWhole most (Matmul left right rows mid cols) = Unit {0}
+
+-- the names of variables and nodes are names
+abbrev pub IsFormed : ℕ → Line → Type 0
+IsFormed most (Flow version) = Unit {0}
+IsFormed most (Graph name) = Unit {0}
+IsFormed most (Input names) = (list_all is_name names ≡ true) × (1 ≤ length names)
+IsFormed most (Node name statement) = (is_name name ≡ true) × IsWhole most statement
+IsFormed most (Output list) = Unit {0}
+IsFormed most (Point entries) = Unit {0}

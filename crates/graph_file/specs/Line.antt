@@ -1,0 +1,145 @@
+-- What the words of a line say: a pattern for each kind of line. A line that fits no pattern says nothing.
+use Rattle.std.specs.Prelude.{ℕ, ◌-◌, ◌^◌, min, ◌==◌, if◌then◌else◌, List, [], ◌∷◌, map, Option, Some, None, option_and_then, option_map, bytes_eq, codes}
+use Rattle.std.specs.List.{slice_split, list_all}
+use Rattle.ratfun_text.specs.Bytes.{is_name, number_of}
+use Rattle.graph_file.specs.Lines.{is_plain, words, after_words}
+use Rattle.graph_file.specs.declared.line.Line.{Line}
+use Rattle.graph_file.specs.declared.line.Line.TheVariants.{Flow, Graph, Input, Node, Output, Point}
+use Rattle.graph_file.specs.declared.line.Statement.{Statement}
+use Rattle.graph_file.specs.declared.line.Statement.TheVariants.{Eval, Take, Slice, Chain, Sum, Product, Matmul}
+
+-- all of the answers, where each is there
+abbrev pub all_of : {A : Type 0} → List (Option A) → Option (List A)
+all_of [] = Some []
+all_of (None ∷ later) = None
+all_of (Some answer ∷ later) = option_map (λ answers. answer ∷ answers) (all_of later)
+
+-- an entry of a point or a version: 2^64 - 1 stands for every greater number too
+abbrev pub entry_of : List ℕ → Option ℕ
+entry_of word = option_map (λ n. min n (2 ^ 64 - 1)) (number_of word)
+
+-- a position or a number of rows or columns: 2^32 - 1 stands for every greater number too
+abbrev pub size_of : List ℕ → Option ℕ
+size_of word = option_map (λ n. min n (2 ^ 32 - 1)) (number_of word)
+
+-- `flow NUM`, of which these are the words behind `flow`; likewise for the other patterns
+abbrev pub flow_line : List (List ℕ) → Option Line
+flow_line (version ∷ []) = option_map Flow (entry_of version)
+flow_line _ = None
+
+-- `graph NAME`
+abbrev pub graph_line : List (List ℕ) → Option Line
+graph_line (name ∷ []) = if is_name name then Some (Graph name) else None
+graph_line _ = None
+
+-- `input NAME ..`
+abbrev pub input_line : List (List ℕ) → Option Line
+input_line [] = None
+input_line (name ∷ names) = if list_all is_name (name ∷ names) then Some (Input (name ∷ names)) else None
+
+-- `output LIST`
+abbrev pub output_line : List (List ℕ) → Option Line
+output_line (list ∷ []) = Some (Output list)
+output_line _ = None
+
+-- `point NUM ..`
+abbrev pub point_line : List (List ℕ) → Option Line
+point_line [] = None
+point_line (entry ∷ entries) = option_map Point (all_of (map entry_of (entry ∷ entries)))
+
+-- `eval LIST = EXPR ; ..`: the expressions are what follows the line's fifth word, `=`, cut at each `;`
+abbrev pub eval_node : List ℕ → List (List ℕ) → Option Statement
+eval_node line (from ∷ equals ∷ _) = if bytes_eq equals (codes "=") then Some (Eval from (slice_split (λ byte. byte == 59) (after_words 5 line))) else None
+eval_node line _ = None
+
+-- the pair in front of others, where all are there
+abbrev pub part_before : List ℕ → Option (List (List ℕ × ℕ)) → ℕ → Option (List (List ℕ × ℕ))
+part_before list parts position = option_map (λ parts. (list, position) ∷ parts) parts
+
+-- a list and a position, again and again
+abbrev pub parts_of : List (List ℕ) → Option (List (List ℕ × ℕ))
+parts_of [] = Some []
+parts_of (list ∷ []) = None
+parts_of (list ∷ position ∷ later) = option_and_then (part_before list (parts_of later)) (size_of position)
+
+-- `take LIST NUM ..`
+abbrev pub take_node : List (List ℕ) → Option Statement
+take_node [] = None
+take_node (list ∷ later) = option_map Take (parts_of (list ∷ later))
+
+abbrev pub slice_from : List ℕ → Option ℕ → Option ℕ → Option Statement
+slice_from from first last = option_and_then (λ first. option_map (λ last. Slice from first last) last) first
+
+-- `slice LIST NUM NUM`
+abbrev pub slice_node : List (List ℕ) → Option Statement
+slice_node (from ∷ first ∷ last ∷ []) = slice_from from (size_of first) (size_of last)
+slice_node _ = None
+
+-- `chain LIST ..`
+abbrev pub chain_node : List (List ℕ) → Option Statement
+chain_node [] = None
+chain_node (list ∷ lists) = Some (Chain (list ∷ lists))
+
+-- `sum LIST ..`
+abbrev pub sum_node : List (List ℕ) → Option Statement
+sum_node [] = None
+sum_node (list ∷ lists) = Some (Sum (list ∷ lists))
+
+-- `product LIST ..`
+abbrev pub product_node : List (List ℕ) → Option Statement
+product_node [] = None
+product_node (list ∷ lists) = Some (Product (list ∷ lists))
+
+abbrev pub sides_from : Option ℕ → Option ℕ → Option ℕ → Option (ℕ × ℕ × ℕ)
+sides_from rows mid cols = option_and_then (λ rows. option_and_then (λ mid. option_map (λ cols. (rows, mid, cols)) cols) mid) rows
+
+-- the rows, middle and columns of a product
+abbrev pub sides_of : List (List ℕ) → Option (ℕ × ℕ × ℕ)
+sides_of (rows ∷ mid ∷ cols ∷ []) = sides_from (size_of rows) (size_of mid) (size_of cols)
+sides_of _ = None
+
+-- `matmul LIST LIST NUM NUM NUM`
+abbrev pub matmul_node : List (List ℕ) → Option Statement
+matmul_node (left ∷ right ∷ sides) = option_map (λ sides. Matmul left right sides.0 sides.1 sides.2) (sides_of sides)
+matmul_node _ = None
+
+-- what a `node` line says of its node, from the word for its kind on
+abbrev pub statement_of : List ℕ → List ℕ → List (List ℕ) → Option Statement
+statement_of line kind arguments =
+    if bytes_eq kind (codes "eval") then eval_node line arguments else
+    if bytes_eq kind (codes "take") then take_node arguments else
+    if bytes_eq kind (codes "slice") then slice_node arguments else
+    if bytes_eq kind (codes "chain") then chain_node arguments else
+    if bytes_eq kind (codes "sum") then sum_node arguments else
+    if bytes_eq kind (codes "product") then product_node arguments else
+    if bytes_eq kind (codes "matmul") then matmul_node arguments else None
+
+-- `node NAME KIND ..`
+abbrev pub node_line : List ℕ → List (List ℕ) → Option Line
+node_line line (name ∷ kind ∷ arguments) = if is_name name then option_map (Node name) (statement_of line kind arguments) else None
+node_line line _ = None
+
+-- what a line with these words says
+abbrev pub line_of_words : List ℕ → List (List ℕ) → Option Line
+line_of_words line [] = None
+line_of_words line (first ∷ later) =
+    if bytes_eq first (codes "flow") then flow_line later else
+    if bytes_eq first (codes "graph") then graph_line later else
+    if bytes_eq first (codes "input") then input_line later else
+    if bytes_eq first (codes "node") then node_line line later else
+    if bytes_eq first (codes "output") then output_line later else
+    if bytes_eq first (codes "point") then point_line later else None
+
+-- what a line says, if its bytes are allowed and it fits a pattern
+abbrev pub line_of : List ℕ → Option Line
+line_of line = if is_plain line then line_of_words line (words line) else None
+
+-- the expressions of a node
+abbrev pub texts_of : Statement → List (List ℕ)
+texts_of (Eval from texts) = texts
+texts_of _ = []
+
+-- the expressions in a line
+abbrev pub texts_in : Line → List (List ℕ)
+texts_in (Node name statement) = texts_of statement
+texts_in _ = []

@@ -1,0 +1,130 @@
+-- What a file says, in which nothing is wrong.
+use Rattle.std.specs.Prelude.{ℕ, ◌≡◌, ◌↔◌, IsTrue, if◌then◌else◌, List, [], ◌∷◌, ◌++◌, map, position, Option, Some, None, option_and_then, option_map, bytes_eq, codes, slice_get}
+use Rattle.std.specs.List.{AllZip}
+use Rattle.ratfun_text.specs.Grammar.{IsTreeOf}
+use Rattle.ratfun_text.specs.declared.expr.Expr.{Expr}
+use Rattle.ratfun_text.specs.declared.names.Names.{Names}
+use Rattle.ratfun_text.specs.declared.names.Names.TheVariants.{Listed}
+use Rattle.graph_file.specs.declared.graph.Graph.{Graph}
+use Rattle.graph_file.specs.declared.graph.Node.{Node}
+use Rattle.graph_file.specs.declared.graph.NodeKind.{NodeKind}
+use Rattle.graph_file.specs.declared.graph.NodeKind.TheVariants as node
+use Rattle.graph_file.specs.declared.graph.Source.{Source}
+use Rattle.graph_file.specs.declared.graph.Source.TheVariants as source
+use Rattle.graph_file.specs.declared.job.Job.{Job}
+use Rattle.graph_file.specs.declared.line.Line.{Line}
+use Rattle.graph_file.specs.declared.line.Line.TheVariants as line
+use Rattle.graph_file.specs.declared.line.Statement.{Statement}
+use Rattle.graph_file.specs.declared.line.Statement.TheVariants.{Eval, Take, Slice, Chain, Sum, Product, Matmul}
+use Rattle.graph_file.specs.Faults.{names_in, node_names_in, points_in, variables_in}
+use Rattle.graph_file.specs.File.{said}
+use Rattle.graph_file.specs.Line.{all_of, texts_in}
+use Rattle.graph_file.specs.Lines.{lines}
+use Rattle.graph_file.specs.Needed.{IsNeeded, kinds_of}
+
+-- the list with this name: the graph's input, or the node at the name's place
+abbrev pub source_named : List (List ℕ) → List ℕ → Option Source
+source_named nodes list = if bytes_eq list (codes "input") then Some source.Input else option_map source.Node (position (λ other. bytes_eq other list) nodes)
+
+-- a list and a position in it
+abbrev pub part_named : List (List ℕ) → List ℕ × ℕ → Option (Source × ℕ)
+part_named nodes part = option_map (λ list. (list, part.1)) (source_named nodes part.0)
+
+-- the trees are those of the texts, each in its place
+abbrev pub AreTrees : Names → List (List ℕ) → List Expr → Type 0
+AreTrees names texts exprs = AllZip (IsTreeOf names) texts exprs
+
+-- what a node computes by its kind, where the earlier nodes have these names and its expressions these trees
+abbrev pub eval_of : List (List ℕ) → List ℕ → List Expr → Option NodeKind
+eval_of nodes from exprs = option_map (λ from. node.Eval from exprs) (source_named nodes from)
+
+abbrev pub take_of : List (List ℕ) → List (List ℕ × ℕ) → Option NodeKind
+take_of nodes parts = option_map node.Take (all_of (map (part_named nodes) parts))
+
+abbrev pub slice_of : List (List ℕ) → List ℕ → ℕ → ℕ → Option NodeKind
+slice_of nodes from first last = option_map (λ from. node.Slice from first last) (source_named nodes from)
+
+abbrev pub chain_of : List (List ℕ) → List (List ℕ) → Option NodeKind
+chain_of nodes lists = option_map node.Chain (all_of (map (source_named nodes) lists))
+
+abbrev pub sum_of : List (List ℕ) → List (List ℕ) → Option NodeKind
+sum_of nodes lists = option_map node.Sum (all_of (map (source_named nodes) lists))
+
+abbrev pub product_of : List (List ℕ) → List (List ℕ) → Option NodeKind
+product_of nodes lists = option_map node.Product (all_of (map (source_named nodes) lists))
+
+abbrev pub matmul_of : List (List ℕ) → List ℕ → List ℕ → ℕ → ℕ → ℕ → Option NodeKind
+matmul_of nodes left right rows mid cols = option_and_then (λ left. option_map (λ right. node.Matmul left right rows mid cols) (source_named nodes right)) (source_named nodes left)
+
+abbrev pub kind_of : List (List ℕ) → List Expr → Statement → Option NodeKind
+kind_of nodes exprs (Eval from texts) = eval_of nodes from exprs
+kind_of nodes exprs (Take parts) = take_of nodes parts
+kind_of nodes exprs (Slice from first last) = slice_of nodes from first last
+kind_of nodes exprs (Chain lists) = chain_of nodes lists
+kind_of nodes exprs (Sum lists) = sum_of nodes lists
+kind_of nodes exprs (Product lists) = product_of nodes lists
+kind_of nodes exprs (Matmul left right rows mid cols) = matmul_of nodes left right rows mid cols
+
+-- what the node of a line computes, where the lines before it are these
+pub record IsKindOf (earlier : List Line) (name : List ℕ) (statement : Statement) (kind : NodeKind) : Type 0 where
+  pub exprs : List Expr
+  pub trees : AreTrees (names_in (Listed (variables_in earlier)) (line.Node name statement)) (texts_in (line.Node name statement)) exprs
+  pub kind_is : kind_of (node_names_in earlier) exprs statement ≡ Some kind
+
+-- what the nodes of lines compute, in the order of the file
+abbrev pub AreKinds : List Line → List NodeKind → Type 0
+AreKinds [] kinds = kinds ≡ []
+AreKinds (line.Flow version ∷ before) kinds = AreKinds before kinds
+AreKinds (line.Graph name ∷ before) kinds = AreKinds before kinds
+AreKinds (line.Input names ∷ before) kinds = AreKinds before kinds
+AreKinds (line.Node name statement ∷ before) kinds = (front : List NodeKind) × ((kind : NodeKind) × ((kinds ≡ front ++ kind ∷ []) × AreKinds before front × IsKindOf before name statement kind))
+AreKinds (line.Output list ∷ before) kinds = AreKinds before kinds
+AreKinds (line.Point entries ∷ before) kinds = AreKinds before kinds
+
+-- the graph's name
+abbrev pub graph_name_in : List Line → Option (List ℕ)
+graph_name_in [] = None
+graph_name_in (line.Flow version ∷ before) = graph_name_in before
+graph_name_in (line.Graph name ∷ before) = Some name
+graph_name_in (line.Input names ∷ before) = graph_name_in before
+graph_name_in (line.Node name statement ∷ before) = graph_name_in before
+graph_name_in (line.Output list ∷ before) = graph_name_in before
+graph_name_in (line.Point entries ∷ before) = graph_name_in before
+
+-- the list that is the graph's output
+abbrev pub output_in : List Line → Option Source
+output_in [] = None
+output_in (line.Flow version ∷ before) = output_in before
+output_in (line.Graph name ∷ before) = output_in before
+output_in (line.Input names ∷ before) = output_in before
+output_in (line.Node name statement ∷ before) = output_in before
+output_in (line.Output list ∷ before) = source_named (node_names_in before) list
+output_in (line.Point entries ∷ before) = output_in before
+
+-- the names of nodes
+abbrev pub names_of : List Node → List (List ℕ)
+names_of nodes = map (λ node. node.name) nodes
+
+-- what lines say of their graph
+pub record SaysGraph (all : List Line) (graph : Graph) : Type 0 where
+  pub named : graph_name_in all ≡ Some graph.name
+  pub inputs : graph.inputs ≡ variables_in all
+  pub names : names_of graph.nodes ≡ node_names_in all
+  pub kinds : AreKinds all (kinds_of graph.nodes)
+  pub output_is : output_in all ≡ Some graph.output
+  pub marks : (k : ℕ) (node : Node) → slice_get graph.nodes k ≡ Some node → IsTrue node.needed ↔ IsNeeded graph k
+
+-- what a job says
+pub record FileForm : Type 0 where
+  pub graphs : List Graph
+  pub points : List (List ℕ)
+
+abbrev pub form : Job → FileForm
+form job = record { graphs = job.graphs; points = job.points }
+
+-- the file says this
+pub record Says (bytes : List ℕ) (what : FileForm) : Type 0 where
+  pub graph : Graph
+  pub only : what.graphs ≡ graph ∷ []
+  pub says_graph : SaysGraph (said (lines bytes)) graph
+  pub points_are : what.points ≡ points_in (said (lines bytes))

@@ -1,0 +1,275 @@
+//! What may be wrong with a line beside its expressions.
+ghost use Rattle.std.specs.Prelude.{◌≡◌, [], map, IfOk};
+ghost use Rattle.std.specs.List.{list_all};
+ghost use Rattle.graph_file.specs.Faults as spec;
+
+use crate::error::FileKind;
+use crate::line::{Last, Line, Statement};
+use crate::table::Table;
+use ratfun_text::Name;
+use std::alloc::{AllocError, Global};
+
+/// The most bytes of a name that a line gives.
+const NAME_BYTES: usize = 32;
+
+/// The most variables of a graph.
+const VARIABLES: usize = 8;
+
+/// The most nodes of a graph.
+const NODES: usize = 4096;
+
+/// The most points of a file.
+const POINTS: usize = 65536;
+
+/// The greatest position in a list, number of rows or columns, and number of entries of a matrix.
+const POSITIONS: u32 = 262144;
+
+/// What each entry of a point is below: 2^61 - 1.
+const ENTRY_LIMIT: u64 = 2305843009213693951;
+
+fn may_stand(stood: Last, line: &Line) -> bool
+    ensures { result ≡ spec.may_stand stood line.now }
+{
+    match (stood, line) {
+        (Last::Start, Line::Flow(_))
+        | (Last::Flow, Line::Graph(_))
+        | (Last::Graph, Line::Input(_))
+        | (Last::Input | Last::Node, Line::Node(_, _) | Line::Output(_))
+        | (Last::Output | Last::Point, Line::Point(_)) => true,
+        _ => false,
+    }
+}
+
+fn fits(variables: usize, line: &Line) -> bool
+    ensures { result ≡ spec.fits variables line.now }
+{
+    match line {
+        Line::Point(entries) => entries.len() == variables,
+        _ => true,
+    }
+}
+
+fn is_syntax(stood: Last, variables: usize, line: &Line) -> bool
+    ensures { result ≡ spec.is_syntax stood variables line.now }
+{
+    !may_stand(stood, line) || !fits(variables, line)
+}
+
+fn is_version(line: &Line) -> bool
+    ensures { result ≡ spec.is_version line.now }
+{
+    match line {
+        Line::Flow(version) => *version != 1,
+        _ => false,
+    }
+}
+
+/// Whether this is `input` or the name of a node.
+pub fn is_known(nodes: &Table, name: &[u8]) -> bool
+    ensures { result ≡ spec.is_known nodes.now.names name.now }
+{
+    name == b"input".as_slice() || nodes.has(name)
+}
+
+fn are_new(alloc: Global, names: &[Name]) -> Result<bool, AllocError>
+    ensures { IfOk result (λ are_new. are_new ≡ spec.are_new [] names.now) }
+{
+    let mut before = Table::new(alloc);
+    for name in names {
+        if before.has(name.bytes()) {
+            return Ok(false);
+        }
+        before = before.with(alloc, name.bytes())?;
+    }
+    Ok(true)
+}
+
+fn is_repeated(alloc: Global, nodes: &Table, line: &Line) -> Result<bool, AllocError>
+    ensures { IfOk result (λ is_repeated. is_repeated ≡ spec.is_repeated nodes.now.names line.now) }
+{
+    match line {
+        Line::Input(names) => {
+            let are_new = are_new(alloc, names.as_slice())?;
+            Ok(!are_new)
+        }
+        Line::Node(name, _) => Ok(is_known(nodes, name.bytes())),
+        _ => Ok(false),
+    }
+}
+
+fn are_known(nodes: &Table, lists: &[Name]) -> bool
+    ensures { result ≡ list_all (spec.is_known nodes.now.names) lists.now }
+{
+    lists.iter().all(|list| is_known(nodes, list.bytes()))
+}
+
+fn are_parts_known(nodes: &Table, parts: &[(Name, u32)]) -> bool
+    ensures { result ≡ list_all (spec.is_known nodes.now.names) (map (λ part. part.0) parts.now) }
+{
+    parts.iter().all(|(list, _)| is_known(nodes, list.bytes()))
+}
+
+fn are_lists_known(nodes: &Table, statement: &Statement) -> bool
+    ensures { result ≡ list_all (spec.is_known nodes.now.names) (spec.lists_in statement.now) }
+{
+    match statement {
+        Statement::Eval { from, texts: _ } => is_known(nodes, from.bytes()),
+        Statement::Take { parts } => are_parts_known(nodes, parts.as_slice()),
+        Statement::Slice {
+            from,
+            first: _,
+            last: _,
+        } => is_known(nodes, from.bytes()),
+        Statement::Chain { parts } => are_known(nodes, parts.as_slice()),
+        Statement::Sum { parts } => are_known(nodes, parts.as_slice()),
+        Statement::Product { parts } => are_known(nodes, parts.as_slice()),
+        Statement::Matmul {
+            left,
+            right,
+            rows: _,
+            mid: _,
+            cols: _,
+        } => is_known(nodes, left.bytes()) && is_known(nodes, right.bytes()),
+    }
+}
+
+fn is_unknown_node(nodes: &Table, line: &Line) -> bool
+    ensures { result ≡ spec.is_unknown_node nodes.now.names line.now }
+{
+    match line {
+        Line::Node(_, statement) => !are_lists_known(nodes, statement),
+        Line::Output(list) => !is_known(nodes, list.bytes()),
+        _ => false,
+    }
+}
+
+fn are_residues(entries: &[u64]) -> bool
+    ensures { result ≡ list_all spec.is_entry entries.now }
+{
+    entries.iter().all(|entry| *entry < ENTRY_LIMIT)
+}
+
+fn is_residue(line: &Line) -> bool
+    ensures { result ≡ spec.is_residue line.now }
+{
+    match line {
+        Line::Point(entries) => !are_residues(entries.as_slice()),
+        _ => false,
+    }
+}
+
+fn is_position(number: u32) -> bool
+    ensures { result ≡ spec.is_position number }
+{
+    1 <= number && number <= POSITIONS
+}
+
+fn are_sides(rows: u32, cols: u32) -> bool
+    ensures { result ≡ spec.are_sides rows cols }
+{
+    u64::from(rows) * u64::from(cols) <= u64::from(POSITIONS)
+}
+
+fn are_positions(parts: &[(Name, u32)]) -> bool
+    ensures { result ≡ list_all (λ part. spec.is_position part.1) parts.now }
+{
+    parts.iter().all(|(_, position)| is_position(*position))
+}
+
+fn is_range(first: u32, last: u32) -> bool
+    ensures { result ≡ spec.is_range first last }
+{
+    is_position(first) && is_position(last) && first <= last
+}
+
+fn is_product(rows: u32, mid: u32, cols: u32) -> bool
+    ensures { result ≡ spec.is_product rows mid cols }
+{
+    is_position(rows)
+        && is_position(mid)
+        && is_position(cols)
+        && are_sides(rows, cols)
+        && are_sides(rows, mid)
+        && are_sides(mid, cols)
+}
+
+fn is_in_range(statement: &Statement) -> bool
+    ensures { result ≡ spec.is_in_range statement.now }
+{
+    match statement {
+        Statement::Take { parts } => are_positions(parts.as_slice()),
+        Statement::Slice {
+            from: _,
+            first,
+            last,
+        } => is_range(*first, *last),
+        Statement::Matmul {
+            left: _,
+            right: _,
+            rows,
+            mid,
+            cols,
+        } => is_product(*rows, *mid, *cols),
+        _ => true,
+    }
+}
+
+fn is_short(name: &[u8]) -> bool
+    ensures { result ≡ spec.is_short name.now }
+{
+    name.len() <= NAME_BYTES
+}
+
+fn are_short(names: &[Name]) -> bool
+    ensures { result ≡ list_all spec.is_short names.now }
+{
+    names.iter().all(|name| is_short(name.bytes()))
+}
+
+fn is_limit(nodes: usize, points: usize, line: &Line) -> bool
+    ensures { result ≡ spec.is_limit nodes points line.now }
+{
+    match line {
+        Line::Graph(name) => !is_short(name.bytes()),
+        Line::Input(names) => !(are_short(names.as_slice()) && names.len() <= VARIABLES),
+        Line::Node(name, statement) => !(is_short(name.bytes())
+            && nodes < NODES
+            && is_in_range(statement)),
+        Line::Point(_) => points >= POINTS,
+        _ => false,
+    }
+}
+
+/// The first thing that is wrong with the line, its expressions apart, where the last line, the number of variables,
+/// the nodes' names and the number of points are these.
+pub fn fault_after(
+    alloc: Global,
+    stood: Last,
+    variables: usize,
+    nodes: &Table,
+    points: usize,
+    line: &Line,
+) -> Result<Option<FileKind>, AllocError>
+    ensures { IfOk result (λ fault. fault ≡ spec.fault_after stood variables nodes.now.names points line.now) }
+{
+    if is_syntax(stood, variables, line) {
+        return Ok(Some(FileKind::Syntax));
+    }
+    if is_version(line) {
+        return Ok(Some(FileKind::Version));
+    }
+    let is_repeated = is_repeated(alloc, nodes, line)?;
+    if is_repeated {
+        return Ok(Some(FileKind::Repeated));
+    }
+    if is_unknown_node(nodes, line) {
+        return Ok(Some(FileKind::UnknownNode));
+    }
+    if is_residue(line) {
+        return Ok(Some(FileKind::Residue));
+    }
+    if is_limit(nodes.len(), points, line) {
+        return Ok(Some(FileKind::Limit));
+    }
+    Ok(None)
+}

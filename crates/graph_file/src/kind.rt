@@ -1,0 +1,179 @@
+//! What a node computes, from what its line says.
+ghost use Rattle.std.specs.Prelude.{◌≡◌, ◌≤◌, length, map, IfOk};
+ghost use Rattle.graph_file.specs.Line.{all_of};
+ghost use Rattle.graph_file.specs.Says as spec;
+
+use crate::graph::{NodeKind, Source};
+use crate::line::Statement;
+use crate::table::Table;
+use ratfun_text::{Expr, Name};
+use sqlite_items::Items;
+use std::alloc::{AllocError, Global};
+
+/// The list with this name.
+pub fn source_named(nodes: &Table, list: &[u8]) -> Option<Source>
+    requires { length nodes.now.names ≤ 4096 }
+    ensures { result ≡ spec.source_named nodes.now.names list.now }
+{
+    if list == b"input".as_slice() {
+        return Some(Source::Input);
+    }
+    let number = nodes.number(list)?;
+    Some(Source::Node(number as u32))
+}
+
+fn sources_named(
+    alloc: Global,
+    nodes: &Table,
+    lists: &[Name],
+) -> Result<Option<Items<Source>>, AllocError>
+    requires { length nodes.now.names ≤ 4096 }
+    ensures { IfOk result (λ sources. sources ≡ all_of (map (spec.source_named nodes.now.names) lists.now)) }
+{
+    let mut sources = Items::new(alloc);
+    for list in lists {
+        let Some(source) = source_named(nodes, list.bytes()) else {
+            return Ok(None);
+        };
+        sources.push(source)?;
+    }
+    Ok(Some(sources))
+}
+
+fn part_named(nodes: &Table, part: &(Name, u32)) -> Option<(Source, u32)>
+    requires { length nodes.now.names ≤ 4096 }
+    ensures { result ≡ spec.part_named nodes.now.names part.now }
+{
+    let (list, position) = part;
+    let source = source_named(nodes, list.bytes())?;
+    Some((source, *position))
+}
+
+fn parts_named(
+    alloc: Global,
+    nodes: &Table,
+    parts: &[(Name, u32)],
+) -> Result<Option<Items<(Source, u32)>>, AllocError>
+    requires { length nodes.now.names ≤ 4096 }
+    ensures { IfOk result (λ wanted. wanted ≡ all_of (map (spec.part_named nodes.now.names) parts.now)) }
+{
+    let mut wanted = Items::new(alloc);
+    for part in parts {
+        let Some(part) = part_named(nodes, part) else {
+            return Ok(None);
+        };
+        wanted.push(part)?;
+    }
+    Ok(Some(wanted))
+}
+
+fn take_of(
+    alloc: Global,
+    nodes: &Table,
+    parts: &[(Name, u32)],
+) -> Result<Option<NodeKind>, AllocError>
+    requires { length nodes.now.names ≤ 4096 }
+    ensures { IfOk result (λ kind. kind ≡ spec.take_of nodes.now.names parts.now) }
+{
+    let Some(parts) = parts_named(alloc, nodes, parts)? else {
+        return Ok(None);
+    };
+    Ok(Some(NodeKind::Take { parts }))
+}
+
+fn chain_of(alloc: Global, nodes: &Table, lists: &[Name]) -> Result<Option<NodeKind>, AllocError>
+    requires { length nodes.now.names ≤ 4096 }
+    ensures { IfOk result (λ kind. kind ≡ spec.chain_of nodes.now.names lists.now) }
+{
+    let Some(parts) = sources_named(alloc, nodes, lists)? else {
+        return Ok(None);
+    };
+    Ok(Some(NodeKind::Chain { parts }))
+}
+
+fn sum_of(alloc: Global, nodes: &Table, lists: &[Name]) -> Result<Option<NodeKind>, AllocError>
+    requires { length nodes.now.names ≤ 4096 }
+    ensures { IfOk result (λ kind. kind ≡ spec.sum_of nodes.now.names lists.now) }
+{
+    let Some(parts) = sources_named(alloc, nodes, lists)? else {
+        return Ok(None);
+    };
+    Ok(Some(NodeKind::Sum { parts }))
+}
+
+fn product_of(alloc: Global, nodes: &Table, lists: &[Name]) -> Result<Option<NodeKind>, AllocError>
+    requires { length nodes.now.names ≤ 4096 }
+    ensures { IfOk result (λ kind. kind ≡ spec.product_of nodes.now.names lists.now) }
+{
+    let Some(parts) = sources_named(alloc, nodes, lists)? else {
+        return Ok(None);
+    };
+    Ok(Some(NodeKind::Product { parts }))
+}
+
+fn eval_of(nodes: &Table, from: &[u8], exprs: Items<Expr>) -> Option<NodeKind>
+    requires { length nodes.now.names ≤ 4096 }
+    ensures { result ≡ spec.eval_of nodes.now.names from.now exprs }
+{
+    let Some(from) = source_named(nodes, from) else {
+        return None;
+    };
+    Some(NodeKind::Eval { from, exprs })
+}
+
+fn slice_of(nodes: &Table, from: &[u8], first: u32, last: u32) -> Option<NodeKind>
+    requires { length nodes.now.names ≤ 4096 }
+    ensures { result ≡ spec.slice_of nodes.now.names from.now first last }
+{
+    let from = source_named(nodes, from)?;
+    Some(NodeKind::Slice { from, first, last })
+}
+
+fn matmul_of(
+    nodes: &Table,
+    left: &[u8],
+    right: &[u8],
+    rows: u32,
+    mid: u32,
+    cols: u32,
+) -> Option<NodeKind>
+    requires { length nodes.now.names ≤ 4096 }
+    ensures { result ≡ spec.matmul_of nodes.now.names left.now right.now rows mid cols }
+{
+    let left = source_named(nodes, left)?;
+    let right = source_named(nodes, right)?;
+    Some(NodeKind::Matmul {
+        left,
+        right,
+        rows,
+        mid,
+        cols,
+    })
+}
+
+/// What a node computes, where the earlier nodes have these names and its expressions these trees.
+pub fn kind_of(
+    alloc: Global,
+    nodes: &Table,
+    exprs: Items<Expr>,
+    statement: &Statement,
+) -> Result<Option<NodeKind>, AllocError>
+    requires { length nodes.now.names ≤ 4096 }
+    ensures { IfOk result (λ kind. kind ≡ spec.kind_of nodes.now.names exprs statement.now) }
+{
+    match statement {
+        Statement::Eval { from, texts: _ } => Ok(eval_of(nodes, from.bytes(), exprs)),
+        Statement::Take { parts } => take_of(alloc, nodes, parts.as_slice()),
+        Statement::Slice { from, first, last } => Ok(slice_of(nodes, from.bytes(), *first, *last)),
+        Statement::Chain { parts } => chain_of(alloc, nodes, parts.as_slice()),
+        Statement::Sum { parts } => sum_of(alloc, nodes, parts.as_slice()),
+        Statement::Product { parts } => product_of(alloc, nodes, parts.as_slice()),
+        Statement::Matmul {
+            left,
+            right,
+            rows,
+            mid,
+            cols,
+        } => Ok(matmul_of(nodes, left.bytes(), right.bytes(), *rows, *mid, *cols)),
+    }
+}

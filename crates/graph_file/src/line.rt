@@ -1,0 +1,73 @@
+//! What one line says.
+use ratfun_text::Name;
+use sqlite_items::Items;
+
+/// What one line says. Numbers that are past their type's greatest are kept as that: all of them are out of range.
+#[derive(Drop)]
+pub enum Line {
+    /// `flow NUM`
+    Flow(u64),
+    /// `graph NAME`
+    Graph(Name),
+    /// `input NAME ..`
+    Input(Items<Name>),
+    /// `node NAME KIND ..`
+    Node(Name, Statement),
+    /// `output LIST`
+    Output(Name),
+    /// `point NUM ..`
+    Point(Items<u64>),
+}
+
+/// What a `node` line says of its node. Lists are given by their names.
+#[derive(Drop)]
+pub enum Statement {
+    /// `eval LIST = EXPR ; ..`
+    Eval {
+        from: Name,
+        texts: Items<Name>,
+    },
+    /// `take LIST NUM ..`
+    Take {
+        parts: Items<(Name, u32)>,
+    },
+    /// `slice LIST NUM NUM`
+    Slice {
+        from: Name,
+        first: u32,
+        last: u32,
+    },
+    /// `chain LIST ..`
+    Chain {
+        parts: Items<Name>,
+    },
+    /// `sum LIST ..`
+    Sum {
+        parts: Items<Name>,
+    },
+    /// `product LIST ..`
+    Product {
+        parts: Items<Name>,
+    },
+    /// `matmul LIST LIST NUM NUM NUM`
+    Matmul {
+        left: Name,
+        right: Name,
+        rows: u32,
+        mid: u32,
+        cols: u32,
+    },
+}
+
+/// Which kind of line stood last among those that weren't passed over.
+#[derive(Clone, Copy, PartialEq, Eq, Debug)]
+pub enum Last {
+    /// None has stood yet.
+    Start,
+    Flow,
+    Graph,
+    Input,
+    Node,
+    Output,
+    Point,
+}

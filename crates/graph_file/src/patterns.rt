@@ -1,0 +1,320 @@
+//! The patterns that a line may fit, each by the words behind its first one.
+ghost use Rattle.std.specs.Prelude.{◌≡◌, ◌+◌, ◌≤◌, ◌==◌, length, map, IfOk, IfSome, option_map};
+ghost use Rattle.std.specs.List.{list_all, slice_split};
+ghost use Rattle.ratfun_text.specs.Bytes as spec_bytes;
+ghost use Rattle.graph_file.specs.Formed.{IsFormed};
+ghost use Rattle.graph_file.specs.Line as spec;
+
+use crate::line::{Line, Statement};
+use crate::lines::{after_words, cut, is_plain, words};
+use crate::numbers::{entries, entry, size};
+use ratfun_text::Name;
+use ratfun_text::bytes::is_name;
+use sqlite_items::Items;
+use std::alloc::{AllocError, Global};
+
+fn are_names(words: &[&[u8]]) -> bool
+    ensures { result ≡ list_all spec_bytes.is_name (map (λ word. word.now) words.now) }
+{
+    words.iter().all(|word| is_name(word))
+}
+
+fn copies(alloc: Global, words: &[&[u8]]) -> Result<Items<Name>, AllocError>
+    ensures { IfOk result (λ copies. copies ≡ map (λ word. word.now) words.now) }
+{
+    let mut copies = Items::new(alloc);
+    for word in words {
+        copies.push(Name::of(alloc, word)?)?;
+    }
+    Ok(copies)
+}
+
+fn flow_line(words: &[&[u8]]) -> Option<Line>
+    ensures { result ≡ spec.flow_line (map (λ word. word.now) words.now) }
+{
+    let [version] = words else {
+        return None;
+    };
+    let version = entry(version)?;
+    Some(Line::Flow(version))
+}
+
+fn graph_line(alloc: Global, words: &[&[u8]]) -> Result<Option<Line>, AllocError>
+    ensures { IfOk result (λ line. line ≡ spec.graph_line (map (λ word. word.now) words.now)) }
+{
+    let [name] = words else {
+        return Ok(None);
+    };
+    if !is_name(name) {
+        return Ok(None);
+    }
+    let name = Name::of(alloc, name)?;
+    Ok(Some(Line::Graph(name)))
+}
+
+fn input_line(alloc: Global, words: &[&[u8]]) -> Result<Option<Line>, AllocError>
+    ensures { IfOk result (λ line. line ≡ spec.input_line (map (λ word. word.now) words.now)) }
+{
+    let [_, ..] = words else {
+        return Ok(None);
+    };
+    if !are_names(words) {
+        return Ok(None);
+    }
+    let names = copies(alloc, words)?;
+    Ok(Some(Line::Input(names)))
+}
+
+fn output_line(alloc: Global, words: &[&[u8]]) -> Result<Option<Line>, AllocError>
+    ensures { IfOk result (λ line. line ≡ spec.output_line (map (λ word. word.now) words.now)) }
+{
+    let [list] = words else {
+        return Ok(None);
+    };
+    let list = Name::of(alloc, list)?;
+    Ok(Some(Line::Output(list)))
+}
+
+fn point_line(alloc: Global, words: &[&[u8]]) -> Result<Option<Line>, AllocError>
+    ensures { IfOk result (λ line. line ≡ spec.point_line (map (λ word. word.now) words.now)) }
+{
+    let [_, ..] = words else {
+        return Ok(None);
+    };
+    let Some(entries) = entries(alloc, words)? else {
+        return Ok(None);
+    };
+    Ok(Some(Line::Point(entries)))
+}
+
+/// The pieces of the text between semicolons.
+fn texts(alloc: Global, text: &[u8]) -> Result<Items<Name>, AllocError>
+    ensures { IfOk result (λ texts. texts ≡ slice_split (λ byte. byte == 59) text.now) }
+{
+    let mut texts = Items::new(alloc);
+    let mut rest = Some(text);
+    while let Some(later) = rest {
+        let (piece, behind) = cut(later, b';');
+        texts.push(Name::of(alloc, piece)?)?;
+        rest = behind;
+    }
+    Ok(texts)
+}
+
+fn eval_node(alloc: Global, line: &[u8], words: &[&[u8]]) -> Result<Option<Statement>, AllocError>
+    ensures { IfOk result (λ node. node ≡ spec.eval_node line.now (map (λ word. word.now) words.now)) }
+{
+    let [from, equals, ..] = words else {
+        return Ok(None);
+    };
+    if *equals != b"=".as_slice() {
+        return Ok(None);
+    }
+    let from = Name::of(alloc, from)?;
+    let texts = texts(alloc, after_words(line, 5))?;
+    Ok(Some(Statement::Eval { from, texts }))
+}
+
+/// The lists and positions that the words write.
+fn parts(alloc: Global, words: &[&[u8]]) -> Result<Option<Items<(Name, u32)>>, AllocError>
+    ensures { IfOk result (λ parts. parts ≡ spec.parts_of (map (λ word. word.now) words.now)) }
+{
+    let mut parts = Items::new(alloc);
+    let mut rest = words;
+    while let [list, position, later @ ..] = rest {
+        let Some(position) = size(position) else {
+            return Ok(None);
+        };
+        let list = Name::of(alloc, list)?;
+        parts.push((list, position))?;
+        rest = later;
+    }
+    if !rest.is_empty() {
+        return Ok(None);
+    }
+    Ok(Some(parts))
+}
+
+fn take_node(alloc: Global, words: &[&[u8]]) -> Result<Option<Statement>, AllocError>
+    ensures { IfOk result (λ node. node ≡ spec.take_node (map (λ word. word.now) words.now)) }
+{
+    let [_, ..] = words else {
+        return Ok(None);
+    };
+    let Some(parts) = parts(alloc, words)? else {
+        return Ok(None);
+    };
+    Ok(Some(Statement::Take { parts }))
+}
+
+fn slice_node(alloc: Global, words: &[&[u8]]) -> Result<Option<Statement>, AllocError>
+    ensures { IfOk result (λ node. node ≡ spec.slice_node (map (λ word. word.now) words.now)) }
+{
+    let [from, first, last] = words else {
+        return Ok(None);
+    };
+    let Some(first) = size(first) else {
+        return Ok(None);
+    };
+    let Some(last) = size(last) else {
+        return Ok(None);
+    };
+    let from = Name::of(alloc, from)?;
+    Ok(Some(Statement::Slice { from, first, last }))
+}
+
+fn chain_node(alloc: Global, words: &[&[u8]]) -> Result<Option<Statement>, AllocError>
+    ensures { IfOk result (λ node. node ≡ spec.chain_node (map (λ word. word.now) words.now)) }
+{
+    let [_, ..] = words else {
+        return Ok(None);
+    };
+    let parts = copies(alloc, words)?;
+    Ok(Some(Statement::Chain { parts }))
+}
+
+fn sum_node(alloc: Global, words: &[&[u8]]) -> Result<Option<Statement>, AllocError>
+    ensures { IfOk result (λ node. node ≡ spec.sum_node (map (λ word. word.now) words.now)) }
+{
+    let [_, ..] = words else {
+        return Ok(None);
+    };
+    let parts = copies(alloc, words)?;
+    Ok(Some(Statement::Sum { parts }))
+}
+
+fn product_node(alloc: Global, words: &[&[u8]]) -> Result<Option<Statement>, AllocError>
+    ensures { IfOk result (λ node. node ≡ spec.product_node (map (λ word. word.now) words.now)) }
+{
+    let [_, ..] = words else {
+        return Ok(None);
+    };
+    let parts = copies(alloc, words)?;
+    Ok(Some(Statement::Product { parts }))
+}
+
+fn sides(words: &[&[u8]]) -> Option<(u32, u32, u32)>
+    ensures { result ≡ spec.sides_of (map (λ word. word.now) words.now) }
+{
+    let [rows, mid, cols] = words else {
+        return None;
+    };
+    let rows = size(rows)?;
+    let mid = size(mid)?;
+    let cols = size(cols)?;
+    Some((rows, mid, cols))
+}
+
+fn matmul_node(alloc: Global, words: &[&[u8]]) -> Result<Option<Statement>, AllocError>
+    ensures { IfOk result (λ node. node ≡ spec.matmul_node (map (λ word. word.now) words.now)) }
+{
+    let [left, right, numbers @ ..] = words else {
+        return Ok(None);
+    };
+    let Some((rows, mid, cols)) = sides(numbers) else {
+        return Ok(None);
+    };
+    let left = Name::of(alloc, left)?;
+    let right = Name::of(alloc, right)?;
+    Ok(Some(Statement::Matmul {
+        left,
+        right,
+        rows,
+        mid,
+        cols,
+    }))
+}
+
+fn statement_of(
+    alloc: Global,
+    line: &[u8],
+    kind: &[u8],
+    words: &[&[u8]],
+) -> Result<Option<Statement>, AllocError>
+    ensures { IfOk result (λ node. node ≡ spec.statement_of line.now kind.now (map (λ word. word.now) words.now)) }
+{
+    if kind == b"eval".as_slice() {
+        return eval_node(alloc, line, words);
+    }
+    if kind == b"take".as_slice() {
+        return take_node(alloc, words);
+    }
+    if kind == b"slice".as_slice() {
+        return slice_node(alloc, words);
+    }
+    if kind == b"chain".as_slice() {
+        return chain_node(alloc, words);
+    }
+    if kind == b"sum".as_slice() {
+        return sum_node(alloc, words);
+    }
+    if kind == b"product".as_slice() {
+        return product_node(alloc, words);
+    }
+    if kind == b"matmul".as_slice() {
+        return matmul_node(alloc, words);
+    }
+    Ok(None)
+}
+
+fn node_line(alloc: Global, line: &[u8], words: &[&[u8]]) -> Result<Option<Line>, AllocError>
+    ensures { IfOk result (λ said. said ≡ spec.node_line line.now (map (λ word. word.now) words.now)) }
+{
+    let [name, kind, arguments @ ..] = words else {
+        return Ok(None);
+    };
+    if !is_name(name) {
+        return Ok(None);
+    }
+    let Some(statement) = statement_of(alloc, line, kind, arguments)? else {
+        return Ok(None);
+    };
+    let name = Name::of(alloc, name)?;
+    Ok(Some(Line::Node(name, statement)))
+}
+
+fn line_of_words(alloc: Global, line: &[u8], words: &[&[u8]]) -> Result<Option<Line>, AllocError>
+    ensures { IfOk result (λ said. said ≡ spec.line_of_words line.now (map (λ word. word.now) words.now)) }
+{
+    let [first, later @ ..] = words else {
+        return Ok(None);
+    };
+    if *first == b"flow".as_slice() {
+        return Ok(flow_line(later));
+    }
+    if *first == b"graph".as_slice() {
+        return graph_line(alloc, later);
+    }
+    if *first == b"input".as_slice() {
+        return input_line(alloc, later);
+    }
+    if *first == b"node".as_slice() {
+        return node_line(alloc, line, later);
+    }
+    if *first == b"output".as_slice() {
+        return output_line(alloc, later);
+    }
+    if *first == b"point".as_slice() {
+        return point_line(alloc, later);
+    }
+    Ok(None)
+}
+
+fn said_by(alloc: Global, line: &[u8]) -> Result<Option<Line>, AllocError>
+    ensures { IfOk result (λ said. said ≡ spec.line_of line.now) }
+{
+    if !is_plain(line) {
+        return Ok(None);
+    }
+    let words = words(alloc, line)?;
+    line_of_words(alloc, line, words.as_slice())
+}
+
+/// What the line says, if its bytes are allowed and it fits a pattern.
+pub fn line_of(alloc: Global, line: &[u8]) -> Result<Option<Line>, AllocError>
+    ensures said { IfOk result (λ said. said ≡ spec.line_of line.now) }
+    ensures formed { IfOk result (λ said. IfSome said (IsFormed (length line.now + 1))) }
+{
+    let said = said_by(alloc, line)?;
+    Ok(said)
+}
