@@ -35,7 +35,11 @@ fn learn(alloc: Global, job: &Job) -> Result<Result<Learned, u32>, Fail>
 /// What the file with this text tells at its first point, modulo 2^61 - 1.
 fn told_by(rt: &HostRuntime, text: &str) -> Result<Told, Fail> {
     let alloc = rt.alloc();
-    let job = read_graphs(alloc, text.as_bytes(), Need::Points)?;
+    let bytes = text.as_bytes();
+    if bytes.len() > 16_777_216 {
+        return Err(Fail::from("a long text"));
+    }
+    let job = read_graphs(alloc, bytes, Need::Points)?;
     let learned = match learn(alloc, &job)? {
         Ok(learned) => learned,
         Err(node) => return Ok(Told::Length(node)),
@@ -114,7 +118,11 @@ fn may_be_shared<T: Send + Sync>(_value: &T) {}
 fn what_was_learned_and_a_worker_go_to_other_threads(rt: HostRuntime) -> Result<(), Fail> {
     let alloc = rt.alloc();
     let text = "flow 1\ngraph main\ninput x\nnode r eval input = x\noutput r\npoint 3\n";
-    let job = read_graphs(alloc, text.as_bytes(), Need::Points)?;
+    let bytes = text.as_bytes();
+    if bytes.len() > 16_777_216 {
+        return Err(Fail::from("a long text"));
+    }
+    let job = read_graphs(alloc, bytes, Need::Points)?;
     if let Ok(learned) = learn(alloc, &job)? {
         may_be_shared(&Worker::new(alloc, &job, &learned)?);
         may_be_shared(&learned);
