@@ -1,0 +1,12 @@
+pub mod Systems
+pub mod Echelon
+pub mod Told
+pub mod Entries
+pub mod Spans
+pub mod Turns
+pub mod Values
+pub mod Choices
+pub mod Lists
+pub mod EntryRows
+pub mod Columns
+pub mod Solvers

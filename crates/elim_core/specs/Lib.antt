@@ -1,0 +1,5 @@
+pub mod Kept
+pub mod Layout
+pub mod Rows
+pub mod Solution
+pub mod Solver

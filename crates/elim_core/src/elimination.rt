@@ -1,0 +1,261 @@
+//! Rows in slots: each row begins at the place of its slot with 1, and is kept from there to its end.
+
+ghost use Rattle.std.specs.Prelude.{◌≡◌, ◌≢◌, ℕ, ◌+◌, ◌-◌, ◌*◌, ◌%◌, ◌<◌, ◌≤◌, ◌↔◌, length, slice_index, IfSome, IfNone, IsTrue};
+ghost use Rattle.std.specs.Bool.{OnTrue, OnFalse};
+ghost use Rattle.prime_field.specs.Modulus.{value_of};
+ghost use Rattle.prime_field.specs.Residue.{IsPrime};
+ghost use Rattle.elim_core.specs.Rows.{AllMet, Meets, HasInserted};
+ghost use Rattle.elim_core.specs.Layout.{entry, IsLaidOut, IsRow, IsSpan, IsCleared, KeepsUsed, IsLead, RowSays};
+
+use crate::Rank;
+use prime_field::Modulus;
+
+/// Where a row begins and where it ends.
+#[derive(Clone, Copy)]
+pub struct Lead {
+    /// The place of the first entry that isn't 0.
+    pub place: usize,
+    /// The entries from here on are 0, but for the right side.
+    pub end: usize,
+}
+
+/// Adds `factor` times the words from `start` on to the row, between two places.
+fn add_span(
+    modulus: Modulus,
+    row: &mut [u64],
+    rows: &[u64],
+    start: usize,
+    from: usize,
+    to: usize,
+    factor: u64,
+)
+    requires order { from ≤ to }
+    requires within { to ≤ length row.old }
+    requires source { start + to ≤ length rows.now }
+    requires factor_residue { factor < value_of modulus }
+    requires row_residues { (k : ℕ) → k < length row.old → slice_index row.old k < value_of modulus }
+    requires source_residues { (k : ℕ) → from < k + 1 → k < to → slice_index rows.now (start + k) < value_of modulus }
+    ensures room { length row.new ≡ length row.old }
+    ensures residues { (k : ℕ) → k < length row.old → slice_index row.new k < value_of modulus }
+    ensures inside { (k : ℕ) → from < k + 1 → k < to →
+        slice_index row.new k ≡ (slice_index row.old k + factor * slice_index rows.now (start + k)) % value_of modulus }
+    ensures before { (k : ℕ) → k < from → slice_index row.new k ≡ slice_index row.old k }
+    ensures after { (k : ℕ) → to ≤ k → slice_index row.new k ≡ slice_index row.old k }
+{
+    for i in from..to {
+        row[i] = modulus.add(row[i], modulus.mul(factor, rows[start + i]));
+    }
+}
+
+/// Takes so much of the row in the slot `place` from `row` that its entry at that place becomes 0.
+fn eliminate(
+    modulus: Modulus,
+    unknowns: usize,
+    rows: &[u64],
+    ends: &[u64],
+    row: &mut [u64],
+    place: usize,
+)
+    requires few { unknowns ≤ 4096 }
+    requires laid_out { IsLaidOut (value_of modulus) unknowns rows.now ends.now }
+    requires residues { IsRow (value_of modulus) unknowns row.old }
+    requires place { place < unknowns }
+    requires used { slice_index ends.now place ≢ 0 }
+    ensures residues { IsRow (value_of modulus) unknowns row.new }
+    ensures added { (k : ℕ) → k < unknowns + 1 →
+        slice_index row.new k ≡ (slice_index row.old k
+        + (value_of modulus - slice_index row.old place) % value_of modulus * entry unknowns rows.now ends.now place k) % value_of modulus }
+{
+    let factor = modulus.neg(row[place]);
+    let start = place * (unknowns + 1);
+    row[place] = 0;
+    add_span(
+        modulus,
+        row,
+        rows,
+        start,
+        place + 1,
+        ends[place] as usize,
+        factor,
+    );
+    row[unknowns] = modulus.add(row[unknowns], modulus.mul(factor, rows[start + unknowns]));
+}
+
+/// Takes the row that is kept where `row` begins from it, and answers where it ends then.
+fn advance(
+    modulus: Modulus,
+    unknowns: usize,
+    rows: &[u64],
+    ends: &[u64],
+    row: &mut [u64],
+    lead: Lead,
+) -> usize
+    requires few { unknowns ≤ 4096 }
+    requires laid_out { IsLaidOut (value_of modulus) unknowns rows.now ends.now }
+    requires residues { IsRow (value_of modulus) unknowns row.old }
+    requires place { lead.place < unknowns }
+    requires end { lead.end ≤ unknowns }
+    requires used { slice_index ends.now lead.place ≢ 0 }
+    requires span { IsSpan unknowns row.old lead.place lead.end }
+    ensures residues { IsRow (value_of modulus) unknowns row.new }
+    ensures end { result ≤ unknowns }
+    ensures span { IsSpan unknowns row.new (lead.place + 1) result }
+    ensures met { (z : ℕ → ℕ) → AllMet (value_of modulus) unknowns (entry unknowns rows.now ends.now) z →
+        (Meets (value_of modulus) unknowns (slice_index row.new) z
+        ↔ Meets (value_of modulus) unknowns (slice_index row.old) z) }
+{
+    eliminate(modulus, unknowns, rows, ends, row, lead.place);
+    let end_there = ends[lead.place] as usize;
+    if lead.end < end_there {
+        end_there
+    } else {
+        lead.end
+    }
+}
+
+/// Takes kept rows from `row` until it begins where no row is kept, or is 0 but for its right side.
+fn reduce(
+    modulus: Modulus,
+    unknowns: usize,
+    rows: &[u64],
+    ends: &[u64],
+    row: &mut [u64],
+    span: Lead,
+) -> Option<Lead>
+    requires few { unknowns ≤ 4096 }
+    requires laid_out { IsLaidOut (value_of modulus) unknowns rows.now ends.now }
+    requires residues { IsRow (value_of modulus) unknowns row.old }
+    requires end { span.end ≤ unknowns }
+    requires span { IsSpan unknowns row.old span.place span.end }
+    ensures residues { IsRow (value_of modulus) unknowns row.new }
+    ensures met { (z : ℕ → ℕ) → AllMet (value_of modulus) unknowns (entry unknowns rows.now ends.now) z →
+        (Meets (value_of modulus) unknowns (slice_index row.new) z
+        ↔ Meets (value_of modulus) unknowns (slice_index row.old) z) }
+    ensures some { IfSome result (λ l. IsLead unknowns ends.now row.new l) }
+    ensures none { IfNone result ((k : ℕ) → k < unknowns → slice_index row.new k ≡ 0) }
+{
+    let mut place = span.place;
+    let mut end = span.end;
+    while place < end {
+        if row[place] != 0 {
+            if ends[place] == 0 {
+                return Some(Lead { place, end });
+            }
+            end = advance(modulus, unknowns, rows, ends, row, Lead { place, end });
+        }
+        place += 1;
+    }
+    None
+}
+
+/// Writes `factor` times the row to the words from `start` on, between two places.
+fn write_span(
+    modulus: Modulus,
+    rows: &mut [u64],
+    start: usize,
+    row: &[u64],
+    from: usize,
+    to: usize,
+    factor: u64,
+)
+    requires order { from ≤ to }
+    requires within { to ≤ length row.now }
+    requires target { start + to ≤ length rows.old }
+    requires factor_residue { factor < value_of modulus }
+    requires row_residues { (k : ℕ) → k < length row.now → slice_index row.now k < value_of modulus }
+    ensures room { length rows.new ≡ length rows.old }
+    ensures inside { (k : ℕ) → from < k + 1 → k < to →
+        slice_index rows.new (start + k) ≡ (factor * slice_index row.now k) % value_of modulus }
+    ensures before { (i : ℕ) → i < start + from → slice_index rows.new i ≡ slice_index rows.old i }
+    ensures after { (i : ℕ) → start + to ≤ i → slice_index rows.new i ≡ slice_index rows.old i }
+{
+    for i in from..to {
+        rows[start + i] = modulus.mul(factor, row[i]);
+    }
+}
+
+/// Keeps the row in the slot where it begins, or answers false where its first entry has no inverse.
+fn keep_row(
+    modulus: Modulus,
+    unknowns: usize,
+    rows: &mut [u64],
+    ends: &mut [u64],
+    row: &[u64],
+    lead: Lead,
+) -> bool
+    requires few { unknowns ≤ 4096 }
+    requires laid_out { IsLaidOut (value_of modulus) unknowns rows.old ends.old }
+    requires residues { IsRow (value_of modulus) unknowns row.now }
+    requires lead { IsLead unknowns ends.old row.now lead }
+    ensures laid_out { IsLaidOut (value_of modulus) unknowns rows.new ends.new }
+    ensures keeps_used { KeepsUsed unknowns rows.old ends.old rows.new ends.new }
+    ensures kept { OnTrue result (HasInserted (value_of modulus) unknowns (entry unknowns rows.old ends.old)
+        (entry unknowns rows.new ends.new) (slice_index row.now) lead.place) }
+    ensures used { OnTrue result (slice_index ends.new lead.place ≢ 0) }
+    ensures refused { OnFalse result ((rows.new ≡ rows.old) × (ends.new ≡ ends.old)) }
+    ensures prime { IsPrime (value_of modulus) → IsTrue result }
+{
+    match modulus.inv(row[lead.place]) {
+        Some(inverse) => {
+            let start = lead.place * (unknowns + 1);
+            write_span(modulus, rows, start, row, lead.place + 1, lead.end, inverse);
+            rows[start + unknowns] = modulus.mul(inverse, row[unknowns]);
+            ends[lead.place] = lead.end as u64;
+            true
+        }
+        None => false,
+    }
+}
+
+/// Writes zeros between two places, and for the right side.
+fn clear(unknowns: usize, row: &mut [u64], lead: Lead)
+    requires room { length row.old ≡ unknowns + 1 }
+    requires end { lead.end ≤ unknowns }
+    requires span { IsSpan unknowns row.old lead.place lead.end }
+    ensures { IsCleared unknowns row.new }
+{
+    for i in lead.place..lead.end {
+        row[i] = 0;
+    }
+    row[unknowns] = 0;
+}
+
+/// Absorbs a row that is 0 outside of its span, and leaves zeros in its place.
+pub fn absorb_row(
+    modulus: Modulus,
+    unknowns: usize,
+    rows: &mut [u64],
+    ends: &mut [u64],
+    row: &mut [u64],
+    span: Lead,
+) -> Rank
+    requires few { unknowns ≤ 4096 }
+    requires laid_out { IsLaidOut (value_of modulus) unknowns rows.old ends.old }
+    requires residues { IsRow (value_of modulus) unknowns row.old }
+    requires end { span.end ≤ unknowns }
+    requires span { IsSpan unknowns row.old span.place span.end }
+    ensures laid_out { IsLaidOut (value_of modulus) unknowns rows.new ends.new }
+    ensures keeps_used { KeepsUsed unknowns rows.old ends.old rows.new ends.new }
+    ensures cleared { IsCleared unknowns row.new }
+    ensures says { RowSays result (value_of modulus) unknowns (entry unknowns rows.old ends.old)
+        (entry unknowns rows.new ends.new) (slice_index row.old) }
+{
+    match reduce(modulus, unknowns, rows, ends, row, span) {
+        Some(lead) => {
+            let is_kept = keep_row(modulus, unknowns, rows, ends, row, lead);
+            clear(unknowns, row, lead);
+            if is_kept {
+                return Rank::New;
+            }
+            Rank::Contradiction
+        }
+        None => {
+            let right = row[unknowns];
+            row[unknowns] = 0;
+            if right == 0 {
+                return Rank::Same;
+            }
+            Rank::Contradiction
+        }
+    }
+}
