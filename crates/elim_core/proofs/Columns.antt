@@ -8,7 +8,7 @@ use Rattle.elim_core.specs.Layout.{entry, IsLaidOut, IsCleared}
 use Rattle.elim_core.specs.Solver.{has_number, IsAscending, AreUnknowns}
 use Rattle.elim_core.proofs.Systems.{put-same, put-other}
 use Rattle.elim_core.proofs.Choices.{has_number-index, index-has_number}
-use Rattle.elim_core.proofs.Turns.{slot_before}
+use Rattle.elim_core.proofs.Taken.{slot_before}
 
 -- the numbers of the empty slots before place `at`, as far as they were written
 pub record EmptySoFar (ends out : List ℕ) (count at : ℕ) : Type 0 where

@@ -3,6 +3,7 @@ pub mod Echelon
 pub mod Told
 pub mod Entries
 pub mod Spans
+pub mod Taken
 pub mod Turns
 pub mod Values
 pub mod Choices
@@ -10,3 +11,4 @@ pub mod Lists
 pub mod EntryRows
 pub mod Columns
 pub mod Solvers
+pub mod Sets

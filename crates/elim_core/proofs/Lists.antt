@@ -1,18 +1,20 @@
 -- Solutions as lists and as functions of a place; the parts of the lent words; what absorbing means for the kept rows.
-use Rattle.std.proofs.Common.{◌≡◌, ◌≢◌, ℕ, ◌+◌, ◌*◌, ◌%◌, ◌<◌, ◌==◌, if◌then◌else◌, true, false, List, [], ◌∷◌, ◌++◌, length, get_or, take, drop, refl, sym, ◌∙◌, ap, subst, arith, zero-add}
+use Rattle.std.proofs.Common.{◌≡◌, ◌≢◌, ℕ, ◌+◌, ◌*◌, ◌%◌, ◌<◌, ◌↔◌, ◌==◌, if◌then◌else◌, true, false, List, [], ◌∷◌, ◌++◌, length, get_or, take, drop, refl, sym, ◌∙◌, ap, subst, arith, zero-add}
 use Rattle.std.specs.Prelude.{map}
 use Rattle.std.specs.List.{range_with_len}
 use Rattle.std.proofs.Math.Seq.{take-append_seam, drop-append_seam}
 use Rattle.std.proofs.lemmas.Bool.{eq-eqb, ne_eqb}
 use Rattle.std.proofs.lemmas.List.FromFn.{length-map-range_with_len, get_or-map-range_with_len}
 use Rattle.prime_field.specs.Modulus.{value_of}
+use Rattle.prime_field.specs.Residue.{IsPrime}
 use Rattle.prime_field.specs.Sum.{sum_to}
 use Rattle.prime_field.proofs.Moduli.{value_of-large}
 use Rattle.elim_core.specs.Rows.{Meets, AllMet, AreResidues}
 use Rattle.elim_core.specs.Layout.{entry, IsLaidOut, IsNewRow, IsSameRow, IsNoRow}
 use Rattle.elim_core.specs.Solution.{Satisfies, IsSolution}
-use Rattle.elim_core.specs.Kept.{rows_of, ends_of, work_of, rows_listed, broken_row, kept_rows, HasSolution, IsAbsorbed, IsFree}
+use Rattle.elim_core.specs.Kept.{unknowns_of, modulus_of, rows_of, ends_of, work_of, rows_listed, broken_row, kept_rows, HasSolution, IsCutBy, IsAbsorbed, IsFree}
 use Rattle.elim_core.specs.declared.Elim.{Elim}
+use Rattle.elim_core.specs.declared.Rank.{Rank}
 use Rattle.elim_core.specs.declared.Rank.TheVariants.{New, Same, Contradiction}
 use Rattle.elim_core.proofs.Systems.{Meets-row, Meets-same, Meets-zeros}
 use Rattle.elim_core.proofs.Echelon.{solution_for}
@@ -154,6 +156,7 @@ empty_laid_out m u rows ends positive rows_room ends_room none = record {
 pub absorbed_failed : (e : Elim) (words row : List ℕ) → e.failed ≡ true → IsAbsorbed e words e words row Contradiction
 absorbed_failed e words row failed = record {
   solutions = λ prime zs. (λ s. absurd (failed_none e words zs failed s), λ both. both.0);
+  kept = λ other. absurd (other refl);
   contradiction = λ is zs. failed_none e words zs failed;
   solvable = λ other. absurd (other refl);
   same = λ is. absurd (cc);
@@ -163,14 +166,8 @@ absorbed_failed e words row failed = record {
 module _ (e : Elim) (old words row : List ℕ) (opened : e.failed ≡ false) (laid : IsLaidOut (value_of e.modulus) e.unknowns (rows_of e.unknowns words) (ends_of e.unknowns words)) where
   pub absorbed_new : IsNewRow (value_of e.modulus) e.unknowns (entry e.unknowns (rows_of e.unknowns old) (ends_of e.unknowns old)) (entry e.unknowns (rows_of e.unknowns words) (ends_of e.unknowns words)) (λ k. get_or row k 0) → IsAbsorbed e old e words row New
   absorbed_new is = record {
-    solutions = λ prime zs. (
-      λ s.
-          let both = (is.met (λ k. get_or zs k 0)).0 (kept_met e words opened zs s) in
-          (met_kept e old opened zs s.width s.residues both.0, meets_satisfies (value_of e.modulus) e.unknowns row zs s.width both.1),
-      λ both.
-          met_kept e words opened zs both.0.width both.0.residues
-          ((is.met (λ k. get_or zs k 0)).1 (kept_met e old opened zs both.0, satisfies_meets (value_of e.modulus) e.unknowns row zs both.0.width both.1)),
-    );
+    solutions = λ prime. cut;
+    kept = λ other. cut;
     contradiction = λ wrong. absurd (cc);
     solvable = λ other. kept_solvable e words opened laid;
     same = λ wrong. absurd (cc);
@@ -183,20 +180,34 @@ module _ (e : Elim) (old words row : List ℕ) (opened : e.failed ≡ false) (la
           (satisfies_meets (value_of e.modulus) e.unknowns row (listed e.unknowns is.cut.z) (length-listed e.unknowns is.cut.z) holds));
     };
   }
+    where
+      cut : (zs : List ℕ) → (IsSolution (value_of e.modulus) e.unknowns (kept_rows e words) zs ↔ (IsSolution (value_of e.modulus) e.unknowns (kept_rows e old) zs × Satisfies (value_of e.modulus) row zs))
+      cut zs = (
+        λ s.
+            let both = (is.met (λ k. get_or zs k 0)).0 (kept_met e words opened zs s) in
+            (met_kept e old opened zs s.width s.residues both.0, meets_satisfies (value_of e.modulus) e.unknowns row zs s.width both.1),
+        λ both.
+            met_kept e words opened zs both.0.width both.0.residues
+            ((is.met (λ k. get_or zs k 0)).1 (kept_met e old opened zs both.0, satisfies_meets (value_of e.modulus) e.unknowns row zs both.0.width both.1)),
+      )
 
   pub absorbed_same : IsSameRow (value_of e.modulus) e.unknowns (entry e.unknowns (rows_of e.unknowns old) (ends_of e.unknowns old)) (entry e.unknowns (rows_of e.unknowns words) (ends_of e.unknowns words)) (λ k. get_or row k 0) → IsAbsorbed e old e words row Same
   absorbed_same is = record {
-    solutions = λ prime zs. (
-      λ s.
-          let old_met = (is.met (λ k. get_or zs k 0)).0 (kept_met e words opened zs s) in
-          (met_kept e old opened zs s.width s.residues old_met, meets_satisfies (value_of e.modulus) e.unknowns row zs s.width (is.follows (λ k. get_or zs k 0) old_met)),
-      λ both. met_kept e words opened zs both.0.width both.0.residues ((is.met (λ k. get_or zs k 0)).1 (kept_met e old opened zs both.0)),
-    );
+    solutions = λ prime. uncut;
+    kept = λ other. uncut;
     contradiction = λ wrong. absurd (cc);
     solvable = λ other. kept_solvable e words opened laid;
     same = λ is_same zs s. meets_satisfies (value_of e.modulus) e.unknowns row zs s.width (is.follows (λ k. get_or zs k 0) (kept_met e old opened zs s));
     new = λ wrong. absurd (cc);
   }
+    where
+      uncut : (zs : List ℕ) → (IsSolution (value_of e.modulus) e.unknowns (kept_rows e words) zs ↔ (IsSolution (value_of e.modulus) e.unknowns (kept_rows e old) zs × Satisfies (value_of e.modulus) row zs))
+      uncut zs = (
+        λ s.
+            let old_met = (is.met (λ k. get_or zs k 0)).0 (kept_met e words opened zs s) in
+            (met_kept e old opened zs s.width s.residues old_met, meets_satisfies (value_of e.modulus) e.unknowns row zs s.width (is.follows (λ k. get_or zs k 0) old_met)),
+        λ both. met_kept e words opened zs both.0.width both.0.residues ((is.met (λ k. get_or zs k 0)).1 (kept_met e old opened zs both.0)),
+      )
 
   pub absorbed_none : (now : Elim) → now ≡ record { modulus = e.modulus; unknowns = e.unknowns; failed = true } → IsNoRow (value_of e.modulus) e.unknowns (entry e.unknowns (rows_of e.unknowns old) (ends_of e.unknowns old)) (entry e.unknowns (rows_of e.unknowns words) (ends_of e.unknowns words)) (λ k. get_or row k 0) → IsAbsorbed e old now words row Contradiction
   absorbed_none now now_is is =
@@ -206,11 +217,32 @@ module _ (e : Elim) (old words row : List ℕ) (opened : e.failed ≡ false) (la
           λ s. absurd (failed_none failed words zs refl s),
           λ both. absurd (is.none prime (λ k. get_or zs k 0) (kept_met e old opened zs both.0) (satisfies_meets (value_of e.modulus) e.unknowns row zs both.0.width both.1)),
         );
+        kept = λ other. absurd (other refl);
         contradiction = λ same zs. failed_none failed words zs refl;
         solvable = λ other. absurd (other refl);
         same = λ wrong. absurd (cc);
         new = λ wrong. absurd (cc);
       })
+
+-- loading a row leaves the kept rows as they were, so what absorbing it says of them holds of those before
+pub kept-loaded : (e : Elim) (words loaded : List ℕ) → rows_of e.unknowns loaded ≡ rows_of e.unknowns words → ends_of e.unknowns loaded ≡ ends_of e.unknowns words → kept_rows e loaded ≡ kept_rows e words
+unfolding kept_rows
+kept-loaded e words loaded same_rows same_ends =
+    ap (λ rows. if e.failed then broken_row e.unknowns ∷ [] else rows_listed e.unknowns (entry e.unknowns rows (ends_of e.unknowns loaded))) same_rows
+    ∙ ap (λ ends. if e.failed then broken_row e.unknowns ∷ [] else rows_listed e.unknowns (entry e.unknowns (rows_of e.unknowns words) ends)) same_ends
+
+pub absorbed_loaded : (e now : Elim) (words loaded left row : List ℕ) (rank : Rank) → rows_of e.unknowns loaded ≡ rows_of e.unknowns words → ends_of e.unknowns loaded ≡ ends_of e.unknowns words → work_of e.unknowns loaded ≡ row → IsAbsorbed e loaded now left (work_of e.unknowns loaded) rank → IsAbsorbed e words now left row rank
+absorbed_loaded e now words loaded left row rank same_rows same_ends is_row is =
+    let kept = kept-loaded e words loaded same_rows same_ends in
+    let here = subst (λ (r : List ℕ). IsAbsorbed e loaded now left r rank) is_row is in
+    record {
+      solutions = subst (λ (rows : List (List ℕ)). IsPrime (modulus_of e) → (zs : List ℕ) → (IsSolution (modulus_of e) (unknowns_of e) (kept_rows now left) zs ↔ (IsSolution (modulus_of e) (unknowns_of e) rows zs × Satisfies (modulus_of e) row zs))) kept here.solutions;
+      kept = subst (λ (rows : List (List ℕ)). rank ≢ Contradiction → (zs : List ℕ) → (IsSolution (modulus_of e) (unknowns_of e) (kept_rows now left) zs ↔ (IsSolution (modulus_of e) (unknowns_of e) rows zs × Satisfies (modulus_of e) row zs))) kept here.kept;
+      contradiction = here.contradiction;
+      solvable = here.solvable;
+      same = subst (λ (rows : List (List ℕ)). rank ≡ Same → (zs : List ℕ) → IsSolution (modulus_of e) (unknowns_of e) rows zs → Satisfies (modulus_of e) row zs) kept here.same;
+      new = subst (λ (rows : List (List ℕ)). rank ≡ New → IsCutBy (modulus_of e) (unknowns_of e) rows row) kept here.new;
+    }
 
 -- a fact about three lists, at equal ones
 pub moved : (P : List ℕ → List ℕ → List ℕ → Type 0) (a b c a' b' c' : List ℕ) → a ≡ a' → b ≡ b' → c ≡ c' → P a b c → P a' b' c'

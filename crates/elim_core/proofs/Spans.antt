@@ -5,16 +5,16 @@ use Rattle.elim_core.specs.Layout.{entry, IsRow, IsSpan}
 use Rattle.std.proofs.Math.ListN.{set, length-set}
 use Rattle.std.proofs.lemmas.Bool.{cases_eq}
 
--- up to `at` a multiple of the source was added
-pub record AddedSoFar (m : ℕ) (old now source : List ℕ) (start from factor at : ℕ) : Type 0 where
+-- up to `at` each entry became what is wanted of it
+pub record ChangedSoFar (m : ℕ) (old now : List ℕ) (from : ℕ) (wanted : ℕ → ℕ → ℕ) (at : ℕ) : Type 0 where
   pub room : length now ≡ length old
   pub residues : (k : ℕ) → k < length old → get_or now k 0 < m
-  pub inside : (k : ℕ) → from < k + 1 → k < at → get_or now k 0 ≡ (get_or old k 0 + factor * get_or source (start + k) 0) % m
+  pub inside : (k : ℕ) → from < k + 1 → k < at → get_or now k 0 ≡ wanted k (get_or old k 0)
   pub before : (k : ℕ) → k < from → get_or now k 0 ≡ get_or old k 0
   pub after : (k : ℕ) → at < k + 1 → get_or now k 0 ≡ get_or old k 0
 
-pub AddedSoFar-more : (m : ℕ) (old now source : List ℕ) (start from factor at v : ℕ) → AddedSoFar m old now source start from factor at → at < length old → from < at + 1 → v < m → v ≡ (get_or now at 0 + factor * get_or source (start + at) 0) % m → AddedSoFar m old (set now at v) source start from factor (at + 1)
-AddedSoFar-more m old now source start from factor at v s low above v_low v_is =
+pub Changed-more : (m : ℕ) (old now : List ℕ) (from : ℕ) (wanted : ℕ → ℕ → ℕ) (at v : ℕ) → ChangedSoFar m old now from wanted at → at < length old → from < at + 1 → v < m → v ≡ wanted at (get_or now at 0) → ChangedSoFar m old (set now at v) from wanted (at + 1)
+Changed-more m old now from wanted at v s low above v_low v_is =
     let at_low : at < length now = omega (arith, s.room) in
     let here : get_or (set now at v) at 0 ≡ v = get_or-set_same now at v 0 at_low in
     let other : (k : ℕ) → k ≢ at → get_or (set now at v) k 0 ≡ get_or now k 0 = λ k ne. get_or-set_other now at k v 0 ne in
@@ -28,9 +28,8 @@ AddedSoFar-more m old now source start from factor at v s low above v_low v_is =
       inside = λ k k_above k_low.
           elim (cases_eq k at) [
             | inl same ↦
-                ap (λ i. get_or (set now at v) i 0) same ∙ here ∙ v_is ∙
-                ap (λ x. (x + factor * get_or source (start + at) 0) % m) (s.after at (omega arith)) ∙
-                ap (λ i. (get_or old i 0 + factor * get_or source (start + i) 0) % m) (sym same)
+                ap (λ i. get_or (set now at v) i 0) same ∙ here ∙ v_is ∙ ap (wanted at) (s.after at (omega arith)) ∙
+                ap (λ i. wanted i (get_or old i 0)) (sym same)
             | inr ne ↦ other k ne ∙ s.inside k k_above (omega arith)
           ];
       before = λ k k_low. let ne : k ≢ at = omega arith in other k ne ∙ s.before k k_low;

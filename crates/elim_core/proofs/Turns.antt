@@ -1,140 +1,15 @@
--- What taking a kept row from a row, and keeping a row, do to the entries.
-use Rattle.std.proofs.Common.{◌≡◌, ◌≢◌, ℕ, ◌+◌, ◌-◌, ◌*◌, ◌%◌, ◌<◌, ◌≤◌, ◌↔◌, List, length, get_or, inl, inr, sym, ◌∙◌, ap, subst, arith, get_or-set_other, get_or-set_same}
+-- What keeping a row does to the entries.
+use Rattle.std.proofs.Common.{◌≡◌, ◌≢◌, ℕ, ◌+◌, ◌*◌, ◌%◌, ◌<◌, ◌≤◌, ◌↔◌, List, length, get_or, inl, inr, sym, ◌∙◌, ap, subst, arith, get_or-set_other, get_or-set_same}
 use Rattle.std.proofs.Math.ListN.{set, length-set}
-use Rattle.std.proofs.Math.Nat.{mod-eq_of_lt, mod-lt, mod_self, zero-mod, add-mod-mod}
+use Rattle.std.proofs.Math.Nat.{mod-lt, zero-mod}
 use Rattle.std.proofs.lemmas.Bool.{cases_eq, cases_lt}
 use Rattle.elim_core.specs.Rows.{Meets, AllMet, HasInserted}
-use Rattle.elim_core.specs.Layout.{entry, IsLaidOut, IsRow, IsSpan, KeepsUsed, IsLead, IsNewRow, IsSameRow, IsNoRow}
+use Rattle.elim_core.specs.Layout.{entry, IsLaidOut, IsRow, KeepsUsed, IsLead, IsNewRow, IsSameRow, IsNoRow}
 use Rattle.elim_core.specs.declared.elimination.Lead.{Lead}
-use Rattle.elim_core.proofs.Systems.{Meets-added, Meets-zeros}
+use Rattle.elim_core.proofs.Systems.{Meets-zeros}
 use Rattle.elim_core.proofs.Echelon.{inserted_met, inserted_cuts}
 use Rattle.elim_core.proofs.Entries.{entry-empty, entry-before, entry-own, entry-within, entry-right, entry-beyond, entry-same, laid_out_form}
-
--- a number and its negative
-neg_cancels : (m e : ℕ) → e < m → (e + (m - e) % m * 1) % m ≡ 0
-neg_cancels m e low =
-    ap (λ x. (e + x) % m) (omega arith) ∙ add-mod-mod e (m - e) m ∙ ap (λ x. x % m) (omega arith) ∙ mod_self m
-
--- with nothing added
-nothing_added : (m e f x : ℕ) → e < m → x ≡ 0 → e ≡ (e + f * x) % m
-nothing_added m e f x low none =
-    sym (mod-eq_of_lt low) ∙ ap (λ t. t % m) (omega arith) ∙ ap (λ t. (e + f * t) % m) (sym none)
-
-pub span_low : (m u : ℕ) (rows ends : List ℕ) (j k : ℕ) → IsLaidOut m u rows ends → j < u → get_or ends j 0 ≢ 0 → j < k → k < get_or ends j 0 → get_or rows (j * (u + 1) + k) 0 < m
-span_low m u rows ends j k laid low some after k_low =
-    subst (λ (x : ℕ). x < m) (entry-within u rows ends j k some after k_low) (laid.residues j k low (omega (arith, laid.within j low)))
-
-pub right_low : (m u : ℕ) (rows ends : List ℕ) (j : ℕ) → IsLaidOut m u rows ends → j < u → get_or ends j 0 ≢ 0 → get_or rows (j * (u + 1) + u) 0 < m
-right_low m u rows ends j laid low some =
-    subst (λ (x : ℕ). x < m) (entry-right u rows ends j some low (laid.within j low)) (laid.residues j u low (omega arith))
-
--- a row with another right side
-pub with_right : (m u v : ℕ) (row : List ℕ) → length row ≡ u + 1 → ((k : ℕ) → k < u + 1 → get_or row k 0 < m) → v < m → IsRow m u (set row u v)
-with_right m u v row room low v_low =
-    let u_low : u < length row = omega arith in
-    record {
-      room = length-set row u v ∙ room;
-      residues = λ k k_low.
-          elim (cases_eq k u) [
-            | inl same ↦ subst (λ (x : ℕ). x < m) (sym (get_or-set_same row u v 0 u_low) ∙ ap (λ i. get_or (set row u v) i 0) (sym same)) v_low
-            | inr ne ↦ subst (λ (x : ℕ). x < m) (sym (get_or-set_other row u k v 0 ne)) (low k k_low)
-          ];
-    }
-
--- what `eliminate` adds
-pub eliminated : (m u : ℕ) (rows ends row now : List ℕ) (place factor v : ℕ) → IsLaidOut m u rows ends → IsRow m u row → place < u → get_or ends place 0 ≢ 0 → factor ≡ (m - get_or row place 0) % m → length now ≡ u + 1 →
-    ((k : ℕ) → place + 1 < k + 1 → k < get_or ends place 0 → get_or now k 0 ≡ (get_or (set row place 0) k 0 + factor * get_or rows (place * (u + 1) + k) 0) % m) →
-    ((k : ℕ) → k < place + 1 → get_or now k 0 ≡ get_or (set row place 0) k 0) →
-    ((k : ℕ) → get_or ends place 0 ≤ k → get_or now k 0 ≡ get_or (set row place 0) k 0) →
-    v ≡ (get_or now u 0 + (factor * get_or rows (place * (u + 1) + u) 0) % m) % m →
-    (k : ℕ) → k < u + 1 → get_or (set now u v) k 0 ≡ (get_or row k 0 + (m - get_or row place 0) % m * entry u rows ends place k) % m
-eliminated m u rows ends row now place factor v laid low place_low used factor_is room inside before after v_is k k_low =
-    let u_low : u < length now = omega arith in
-    let there : place < length row = omega (arith, low.room) in
-    let end_low = laid.within place place_low in
-    let f = (m - get_or row place 0) % m in
-    let kept : (i : ℕ) → i ≢ place → get_or (set row place 0) i 0 ≡ get_or row i 0 = λ i ne. get_or-set_other row place i 0 0 ne in
-    elim (cases_eq k u) [
-      | inl last ↦
-          let u_other : u ≢ place = omega arith in
-          ap (λ i. get_or (set now u v) i 0) last ∙ get_or-set_same now u v 0 u_low ∙ v_is ∙
-          add-mod-mod (get_or now u 0) (factor * get_or rows (place * (u + 1) + u) 0) m ∙
-          ap (λ x. (x + factor * get_or rows (place * (u + 1) + u) 0) % m) (after u (omega arith) ∙ kept u u_other) ∙
-          ap (λ x. (get_or row u 0 + x * get_or rows (place * (u + 1) + u) 0) % m) factor_is ∙
-          ap (λ x. (get_or row u 0 + f * x) % m) (sym (entry-right u rows ends place used place_low end_low)) ∙
-          ap (λ i. (get_or row i 0 + f * entry u rows ends place i) % m) (sym last)
-      | inr ne ↦
-          get_or-set_other now u k v 0 ne ∙
-          elim (cases_lt k place) [
-            | inl first ↦
-                let other : k ≢ place = omega arith in
-                before k (omega arith) ∙ kept k other ∙
-                nothing_added m (get_or row k 0) f (entry u rows ends place k) (low.residues k k_low) (entry-before u rows ends place k first)
-            | inr not_first ↦
-                elim (cases_eq k place) [
-                  | inl same ↦
-                      ap (λ i. get_or now i 0) same ∙ before place (omega arith) ∙ get_or-set_same row place 0 0 there ∙
-                      sym (neg_cancels m (get_or row place 0) (low.residues place (omega arith))) ∙
-                      ap (λ x. (get_or row place 0 + f * x) % m) (sym (entry-own u rows ends place used)) ∙
-                      ap (λ i. (get_or row i 0 + f * entry u rows ends place i) % m) (sym same)
-                  | inr other ↦
-                      elim (cases_lt k (get_or ends place 0)) [
-                        | inl within ↦
-                            inside k (omega arith) within ∙
-                            ap (λ x. (x + factor * get_or rows (place * (u + 1) + k) 0) % m) (kept k other) ∙
-                            ap (λ x. (get_or row k 0 + x * get_or rows (place * (u + 1) + k) 0) % m) factor_is ∙
-                            ap (λ x. (get_or row k 0 + f * x) % m) (sym (entry-within u rows ends place k used (omega arith) within))
-                        | inr past ↦
-                            after k past ∙ kept k other ∙
-                            nothing_added m (get_or row k 0) f (entry u rows ends place k) (low.residues k k_low)
-                            (entry-beyond u rows ends place k (omega arith) (omega arith) (omega arith))
-                      ]
-                ]
-          ]
-    ]
-
--- the span of the row after that
-pub eliminated-span : (m u : ℕ) (rows ends row now : List ℕ) (place end end' : ℕ) → IsLaidOut m u rows ends → IsRow m u row → IsRow m u now → place < u → get_or ends place 0 ≢ 0 → IsSpan u row place end → end ≤ end' → get_or ends place 0 ≤ end' →
-    ((k : ℕ) → k < u + 1 → get_or now k 0 ≡ (get_or row k 0 + (m - get_or row place 0) % m * entry u rows ends place k) % m) → IsSpan u now (place + 1) end'
-eliminated-span m u rows ends row now place end end' laid low now_low place_low used span longer as_long added =
-    let f = (m - get_or row place 0) % m in
-    let both_none : (k : ℕ) → k < u → get_or row k 0 ≡ 0 → entry u rows ends place k ≡ 0 → get_or now k 0 ≡ 0 = λ k k_low none also.
-    added k (omega arith) ∙
-    sym (nothing_added m (get_or row k 0) f (entry u rows ends place k) (low.residues k (omega arith)) also) ∙ none in
-    record {
-      before = λ k k_low.
-          elim (cases_eq k place) [
-            | inl same ↦
-                ap (λ i. get_or now i 0) same ∙ added place (omega arith) ∙
-                ap (λ x. (get_or row place 0 + f * x) % m) (entry-own u rows ends place used) ∙
-                neg_cancels m (get_or row place 0) (low.residues place (omega arith))
-            | inr other ↦
-                let first : k < place = omega arith in
-                both_none k (omega arith) (span.before k first) (entry-before u rows ends place k first)
-          ];
-      beyond = λ k k_above k_low.
-          let after_place : place < k = omega (arith, laid.after place place_low used) in
-          both_none k k_low (span.beyond k (omega arith) k_low)
-          (entry-beyond u rows ends place k after_place (omega arith) k_low);
-    }
-
--- and what it holds at
-pub eliminated-met : (m u : ℕ) (rows ends row now : List ℕ) (place : ℕ) → IsRow m u row → place < u →
-    ((k : ℕ) → k < u + 1 → get_or now k 0 ≡ (get_or row k 0 + (m - get_or row place 0) % m * entry u rows ends place k) % m) →
-    (z : ℕ → ℕ) → AllMet m u (entry u rows ends) z → (Meets m u (λ k. get_or now k 0) z ↔ Meets m u (λ k. get_or row k 0) z)
-eliminated-met m u rows ends row now place low place_low added z met =
-    Meets-added m u ((m - get_or row place 0) % m) (λ k. get_or row k 0) (entry u rows ends place) (λ k. get_or now k 0) z
-    added (low.residues u (omega arith)) (met place place_low)
-
--- the words of an earlier slot stand before those of a later one
-pub slot_before : (j p u k : ℕ) → j < p → k < u + 1 → j * (u + 1) + k < p * (u + 1)
-slot_before j p u k before low =
-    let d = p - j - 1 in
-    let is : p ≡ j + 1 + d = omega arith in
-    subst (λ (x : ℕ). j * (u + 1) + k < x * (u + 1)) (sym is) (bound d)
-  where
-    bound : (d : ℕ) → j * (u + 1) + k < (j + 1 + d) * (u + 1)
-    bound d = omega arith
+use Rattle.elim_core.proofs.Taken.{slot_before}
 
 -- the words and ends once the row is kept
 pub record IsWritten (m u : ℕ) (rows ends row : List ℕ) (p end inverse : ℕ) (rows' ends' : List ℕ) : Type 0 where

@@ -41,7 +41,7 @@ kept_rows e words =
     if e.failed then broken_row e.unknowns ∷ [] else
     rows_listed e.unknowns (entry e.unknowns (rows_of e.unknowns words) (ends_of e.unknowns words))
 
--- the words are lent to e: there are enough of them, and e wrote them last
+-- there are enough words, and they hold rows as an elimination of this modulus and width keeps them
 pub record Belongs (e : Elim) (words : List ℕ) : Type 0 where
   pub few : e.unknowns ≤ 4096
   pub room : (e.unknowns + 4) * (e.unknowns + 2) ≤ length words
@@ -92,6 +92,10 @@ row_with u columns values =
 pub record IsAbsorbed (old : Elim) (old_words : List ℕ) (now : Elim) (words row : List ℕ) (rank : Rank) : Type 0 where
   -- the solutions are the earlier ones that satisfy the row
   pub solutions : IsPrime (modulus_of old) → (zs : List ℕ) →
+      (IsSolution (modulus_of old) (unknowns_of old) (kept_rows now words) zs ↔
+      (IsSolution (modulus_of old) (unknowns_of old) (kept_rows old old_words) zs × Satisfies (modulus_of old) row zs))
+  -- after another answer than `Contradiction` they are, whether the modulus is prime or not
+  pub kept : rank ≢ Contradiction → (zs : List ℕ) →
       (IsSolution (modulus_of old) (unknowns_of old) (kept_rows now words) zs ↔
       (IsSolution (modulus_of old) (unknowns_of old) (kept_rows old old_words) zs × Satisfies (modulus_of old) row zs))
   -- after a contradiction there is none

@@ -13,7 +13,7 @@ use prime_field::Modulus;
 /// Where a row begins and where it ends.
 #[derive(Clone, Copy)]
 pub struct Lead {
-    /// The place of the first entry that isn't 0.
+    /// No entry before this place differs from 0.
     pub place: usize,
     /// The entries from here on are 0, but for the right side.
     pub end: usize,
@@ -47,7 +47,37 @@ fn add_span(
     }
 }
 
-/// Takes so much of the row in the slot `place` from `row` that its entry at that place becomes 0.
+/// Adds `factor` times the entries of the row in a slot to the row, from a place after the slot's own to where that row ends.
+fn add_rest(
+    modulus: Modulus,
+    unknowns: usize,
+    rows: &[u64],
+    ends: &[u64],
+    row: &mut [u64],
+    slot: usize,
+    from: usize,
+    factor: u64,
+)
+    requires few { unknowns ≤ 4096 }
+    requires laid_out { IsLaidOut (value_of modulus) unknowns rows.now ends.now }
+    requires residues { IsRow (value_of modulus) unknowns row.old }
+    requires slot { slot < unknowns }
+    requires used { slice_index ends.now slot ≢ 0 }
+    requires from { slot < from }
+    requires factor { factor < value_of modulus }
+    ensures residues { IsRow (value_of modulus) unknowns row.new }
+    ensures added { (k : ℕ) → from < k + 1 → k < unknowns → slice_index row.new k
+        ≡ (slice_index row.old k + factor * entry unknowns rows.now ends.now slot k) % value_of modulus }
+    ensures before { (k : ℕ) → k < from → slice_index row.new k ≡ slice_index row.old k }
+    ensures right { slice_index row.new unknowns ≡ slice_index row.old unknowns }
+{
+    let end = ends[slot] as usize;
+    if from < end {
+        add_span(modulus, row, rows, slot * (unknowns + 1), from, end, factor);
+    }
+}
+
+/// Takes so much of the row in the slot `place` from `row` that its entry at that place becomes 0, given the factor.
 fn eliminate(
     modulus: Modulus,
     unknowns: usize,
@@ -55,33 +85,284 @@ fn eliminate(
     ends: &[u64],
     row: &mut [u64],
     place: usize,
+    factor: u64,
 )
     requires few { unknowns ≤ 4096 }
     requires laid_out { IsLaidOut (value_of modulus) unknowns rows.now ends.now }
     requires residues { IsRow (value_of modulus) unknowns row.old }
     requires place { place < unknowns }
     requires used { slice_index ends.now place ≢ 0 }
+    requires factor { factor ≡ (value_of modulus - slice_index row.old place) % value_of modulus }
     ensures residues { IsRow (value_of modulus) unknowns row.new }
-    ensures added { (k : ℕ) → k < unknowns + 1 →
-        slice_index row.new k ≡ (slice_index row.old k
-        + (value_of modulus - slice_index row.old place) % value_of modulus * entry unknowns rows.now ends.now place k) % value_of modulus }
+    ensures added { (k : ℕ) → k < unknowns + 1 → slice_index row.new k
+        ≡ (slice_index row.old k + factor * entry unknowns rows.now ends.now place k) % value_of modulus }
 {
-    let factor = modulus.neg(row[place]);
-    let start = place * (unknowns + 1);
     row[place] = 0;
-    add_span(
-        modulus,
-        row,
-        rows,
-        start,
-        place + 1,
-        ends[place] as usize,
-        factor,
+    add_rest(modulus, unknowns, rows, ends, row, place, place + 1, factor);
+    row[unknowns] = modulus.add(
+        row[unknowns],
+        modulus.mul(factor, rows[place * (unknowns + 1) + unknowns]),
     );
-    row[unknowns] = modulus.add(row[unknowns], modulus.mul(factor, rows[start + unknowns]));
 }
 
-/// Takes the row that is kept where `row` begins from it, and answers where it ends then.
+/// The sum of an entry and two products, which is folded once.
+fn add_products(
+    modulus: Modulus,
+    entry: u64,
+    factor: u64,
+    left: u64,
+    next_factor: u64,
+    right: u64,
+) -> u64
+    requires entry { entry < value_of modulus }
+    requires factor { factor < value_of modulus }
+    requires left { left < value_of modulus }
+    requires next_factor { next_factor < value_of modulus }
+    requires right { right < value_of modulus }
+    ensures sum { result ≡ (entry + (factor * left + next_factor * right)) % value_of modulus }
+    ensures residue { result < value_of modulus }
+{
+    modulus.reduce_u128(
+        entry as u128 + (factor as u128 * left as u128 + next_factor as u128 * right as u128),
+    )
+}
+
+/// Adds `factor` times the words from `start` on and `next_factor` times those from `next_start` on to the row, between two
+/// places.
+fn add_spans(
+    modulus: Modulus,
+    row: &mut [u64],
+    rows: &[u64],
+    start: usize,
+    next_start: usize,
+    from: usize,
+    to: usize,
+    factor: u64,
+    next_factor: u64,
+)
+    requires order { from ≤ to }
+    requires within { to ≤ length row.old }
+    requires source { start + to ≤ length rows.now }
+    requires next_source { next_start + to ≤ length rows.now }
+    requires factor_residue { factor < value_of modulus }
+    requires next_residue { next_factor < value_of modulus }
+    requires row_residues { (k : ℕ) → k < length row.old → slice_index row.old k < value_of modulus }
+    requires source_residues { (k : ℕ) → from < k + 1 → k < to → slice_index rows.now (start + k) < value_of modulus }
+    requires next_residues { (k : ℕ) → from < k + 1 → k < to → slice_index rows.now (next_start + k) < value_of modulus }
+    ensures room { length row.new ≡ length row.old }
+    ensures residues { (k : ℕ) → k < length row.old → slice_index row.new k < value_of modulus }
+    ensures inside { (k : ℕ) → from < k + 1 → k < to → slice_index row.new k
+        ≡ (slice_index row.old k + (factor * slice_index rows.now (start + k)
+        + next_factor * slice_index rows.now (next_start + k))) % value_of modulus }
+    ensures before { (k : ℕ) → k < from → slice_index row.new k ≡ slice_index row.old k }
+    ensures after { (k : ℕ) → to ≤ k → slice_index row.new k ≡ slice_index row.old k }
+{
+    for i in from..to {
+        row[i] = add_products(
+            modulus,
+            row[i],
+            factor,
+            rows[start + i],
+            next_factor,
+            rows[next_start + i],
+        );
+    }
+}
+
+/// What is left at the place after `place` once `factor` times the row in the slot `place` is added to `row`.
+fn left_after(
+    modulus: Modulus,
+    unknowns: usize,
+    rows: &[u64],
+    ends: &[u64],
+    row: &[u64],
+    place: usize,
+    factor: u64,
+) -> u64
+    requires few { unknowns ≤ 4096 }
+    requires laid_out { IsLaidOut (value_of modulus) unknowns rows.now ends.now }
+    requires residues { IsRow (value_of modulus) unknowns row.now }
+    requires next { place + 1 < unknowns }
+    requires used { slice_index ends.now place ≢ 0 }
+    requires factor { factor < value_of modulus }
+    ensures residue { result < value_of modulus }
+    ensures left { result ≡ (slice_index row.now (place + 1)
+        + factor * entry unknowns rows.now ends.now place (place + 1)) % value_of modulus }
+{
+    let next = place + 1;
+    if next < ends[place] as usize {
+        modulus.add(
+            row[next],
+            modulus.mul(factor, rows[place * (unknowns + 1) + next]),
+        )
+    } else {
+        row[next]
+    }
+}
+
+/// The end of what two rows share from a place on, or that place where they share nothing there.
+fn shared_end(from: usize, end: usize, next_end: usize) -> usize
+    ensures from { from ≤ result }
+    ensures within { from < result → (result ≤ end) × (result ≤ next_end) }
+{
+    if from < end && from < next_end {
+        if end < next_end {
+            return end;
+        }
+        return next_end;
+    }
+    from
+}
+
+/// Adds multiples of the rows in the slots `place` and `place + 1` to the row at the places after both that they share, and
+/// answers where these end.
+fn add_shared(
+    modulus: Modulus,
+    unknowns: usize,
+    rows: &[u64],
+    ends: &[u64],
+    row: &mut [u64],
+    place: usize,
+    factor: u64,
+    next_factor: u64,
+) -> usize
+    requires few { unknowns ≤ 4096 }
+    requires laid_out { IsLaidOut (value_of modulus) unknowns rows.now ends.now }
+    requires residues { IsRow (value_of modulus) unknowns row.old }
+    requires next { place + 1 < unknowns }
+    requires used { slice_index ends.now place ≢ 0 }
+    requires next_used { slice_index ends.now (place + 1) ≢ 0 }
+    requires factor { factor < value_of modulus }
+    requires next_factor { next_factor < value_of modulus }
+    ensures residues { IsRow (value_of modulus) unknowns row.new }
+    ensures end { (place + 1 < result) × (result ≤ unknowns) }
+    ensures added { (k : ℕ) → place + 1 < k → k < result → slice_index row.new k
+        ≡ (slice_index row.old k + (factor * entry unknowns rows.now ends.now place k
+        + next_factor * entry unknowns rows.now ends.now (place + 1) k)) % value_of modulus }
+    ensures before { (k : ℕ) → k < place + 2 → slice_index row.new k ≡ slice_index row.old k }
+    ensures after { (k : ℕ) → result < k + 1 → slice_index row.new k ≡ slice_index row.old k }
+{
+    let from = place + 2;
+    let end = shared_end(from, ends[place] as usize, ends[place + 1] as usize);
+    if from < end {
+        add_spans(
+            modulus,
+            row,
+            rows,
+            place * (unknowns + 1),
+            (place + 1) * (unknowns + 1),
+            from,
+            end,
+            factor,
+            next_factor,
+        );
+    }
+    end
+}
+
+/// The factor of the row in the slot after `place`, where a row is kept there and isn't 0 to be added: the one that makes the
+/// entry of `row` 0 there once `factor` times the row in the slot `place` is added.
+fn factor_after(
+    modulus: Modulus,
+    unknowns: usize,
+    rows: &[u64],
+    ends: &[u64],
+    row: &[u64],
+    place: usize,
+    factor: u64,
+) -> Option<u64>
+    requires few { unknowns ≤ 4096 }
+    requires laid_out { IsLaidOut (value_of modulus) unknowns rows.now ends.now }
+    requires residues { IsRow (value_of modulus) unknowns row.now }
+    requires place { place < unknowns }
+    requires used { slice_index ends.now place ≢ 0 }
+    requires factor { factor < value_of modulus }
+    ensures next { IfSome result (λ f. place + 1 < unknowns) }
+    ensures next_used { IfSome result (λ f. slice_index ends.now (place + 1) ≢ 0) }
+    ensures factor { IfSome result (λ f. f ≡ (value_of modulus - (slice_index row.now (place + 1)
+        + factor * entry unknowns rows.now ends.now place (place + 1)) % value_of modulus) % value_of modulus) }
+{
+    let next = place + 1;
+    if next >= unknowns || ends[next] == 0 {
+        return None;
+    }
+    let left = left_after(modulus, unknowns, rows, ends, row, place, factor);
+    if left == 0 {
+        return None;
+    }
+    Some(modulus.neg(left))
+}
+
+/// Takes so much of the rows in the slots `place` and `place + 1` from `row` that its entries at both places become 0, given
+/// the factors of both.
+fn eliminate_both(
+    modulus: Modulus,
+    unknowns: usize,
+    rows: &[u64],
+    ends: &[u64],
+    row: &mut [u64],
+    place: usize,
+    factor: u64,
+    next_factor: u64,
+)
+    requires few { unknowns ≤ 4096 }
+    requires laid_out { IsLaidOut (value_of modulus) unknowns rows.now ends.now }
+    requires residues { IsRow (value_of modulus) unknowns row.old }
+    requires next { place + 1 < unknowns }
+    requires used { slice_index ends.now place ≢ 0 }
+    requires next_used { slice_index ends.now (place + 1) ≢ 0 }
+    requires factor { factor ≡ (value_of modulus - slice_index row.old place) % value_of modulus }
+    requires next_factor { next_factor ≡ (value_of modulus - (slice_index row.old (place + 1)
+        + factor * entry unknowns rows.now ends.now place (place + 1)) % value_of modulus) % value_of modulus }
+    ensures residues { IsRow (value_of modulus) unknowns row.new }
+    ensures added { (k : ℕ) → k < unknowns + 1 →
+        slice_index row.new k ≡ (slice_index row.old k + (factor * entry unknowns rows.now ends.now place k
+        + next_factor * entry unknowns rows.now ends.now (place + 1) k)) % value_of modulus }
+{
+    let next = place + 1;
+    row[place] = 0;
+    row[next] = 0;
+    let shared = add_shared(
+        modulus,
+        unknowns,
+        rows,
+        ends,
+        row,
+        place,
+        factor,
+        next_factor,
+    );
+    add_rest(modulus, unknowns, rows, ends, row, place, shared, factor);
+    add_rest(
+        modulus,
+        unknowns,
+        rows,
+        ends,
+        row,
+        next,
+        shared,
+        next_factor,
+    );
+    row[unknowns] = add_products(
+        modulus,
+        row[unknowns],
+        factor,
+        rows[place * (unknowns + 1) + unknowns],
+        next_factor,
+        rows[next * (unknowns + 1) + unknowns],
+    );
+}
+
+/// The later of two places.
+fn later(place: usize, other: usize) -> usize
+    ensures first { place ≤ result }
+    ensures second { other ≤ result }
+    ensures limit { (u : ℕ) → place ≤ u → other ≤ u → result ≤ u }
+{
+    if place < other { other } else { place }
+}
+
+/// Takes the row that is kept where `row` begins from it, and the next one too where both are wanted. Answers where it ends then.
 fn advance(
     modulus: Modulus,
     unknowns: usize,
@@ -104,12 +385,26 @@ fn advance(
         (Meets (value_of modulus) unknowns (slice_index row.new) z
         ↔ Meets (value_of modulus) unknowns (slice_index row.old) z) }
 {
-    eliminate(modulus, unknowns, rows, ends, row, lead.place);
-    let end_there = ends[lead.place] as usize;
-    if lead.end < end_there {
-        end_there
-    } else {
-        lead.end
+    let factor = modulus.neg(row[lead.place]);
+    let end = later(lead.end, ends[lead.place] as usize);
+    match factor_after(modulus, unknowns, rows, ends, row, lead.place, factor) {
+        Some(next_factor) => {
+            eliminate_both(
+                modulus,
+                unknowns,
+                rows,
+                ends,
+                row,
+                lead.place,
+                factor,
+                next_factor,
+            );
+            later(end, ends[lead.place + 1] as usize)
+        }
+        None => {
+            eliminate(modulus, unknowns, rows, ends, row, lead.place, factor);
+            end
+        }
     }
 }
 

@@ -16,11 +16,11 @@ use crate::solver::solve_parts;
 use prime_field::Modulus;
 
 /// Empties all slots, and clears the row at hand.
-pub fn empty(modulus: Modulus, unknowns: usize, words: &mut [u64])
+pub fn empty(unknowns: usize, words: &mut [u64])
     requires few { unknowns ≤ 4096 }
     requires room { (unknowns + 4) * (unknowns + 2) ≤ length words.old }
     ensures room { length words.new ≡ length words.old }
-    ensures laid_out { IsLaidOut (value_of modulus) unknowns (rows_of unknowns words.new) (ends_of unknowns words.new) }
+    ensures laid_out { (m : ℕ) → 0 < m → IsLaidOut m unknowns (rows_of unknowns words.new) (ends_of unknowns words.new) }
     ensures cleared { IsCleared unknowns (work_of unknowns words.new) }
     ensures none { (j : ℕ) → j < unknowns → slice_index (ends_of unknowns words.new) j ≡ 0 }
 {

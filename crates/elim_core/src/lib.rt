@@ -5,10 +5,11 @@
 //! its right side.
 #![tactic(auto)]
 
-ghost use Rattle.std.specs.Prelude.{true, ◌≡◌, ◌≢◌, ℕ, ◌+◌, ◌*◌, ◌<◌, ◌≤◌, ◌-◌, ◌↔◌, List, length, slice_index, take};
+ghost use Rattle.std.specs.Prelude.{false, ◌≡◌, ◌≢◌, ℕ, ◌+◌, ◌*◌, ◌<◌, ◌≤◌, ◌-◌, ◌↔◌, List, length, slice_index, take};
 ghost use Rattle.std.specs.Bool.{OnTrue, OnFalse};
 ghost use Rattle.prime_field.specs.Modulus.{value_of};
-ghost use Rattle.elim_core.specs.Kept.{unknowns_of, modulus_of, kept_rows, Belongs, IsAbsorbed, HasSolution, row_with, IsFree};
+ghost use Rattle.elim_core.specs.Kept.{unknowns_of, modulus_of, kept_rows, rows_of, ends_of, work_of, Belongs, IsAbsorbed, HasSolution, row_with, IsFree};
+ghost use Rattle.elim_core.specs.Layout.{IsLaidOut, IsRow, IsSpan};
 ghost use Rattle.elim_core.specs.Solution.{IsSolution, IsIndependent};
 ghost use Rattle.elim_core.specs.Solver.{IsAscending, AreUnknowns, ListsIndependent, IsCoefficient, IsSolverList, HasSolverValue};
 ghost use Rattle.prime_field.specs.Residue.{IsPrime};
@@ -23,7 +24,11 @@ mod lent;
 mod solver;
 mod substitution;
 
+use elimination::Lead;
 use solver::{free_value, list_empty};
+
+#[cfg(test)]
+mod tests;
 
 /// What absorbing a row did to the solutions.
 #[derive(Clone, Copy, PartialEq, Eq, Debug)]
@@ -39,7 +44,7 @@ pub enum Rank {
 /// A row of a system in which most entries are 0: the columns of the others, ascending. Column 0 is the right side.
 #[derive(Drop, Debug)]
 pub struct SparseRow {
-    /// The columns, which ascend and are distinct.
+    /// The columns, which are to ascend and be distinct.
     pub columns: Items<u32>,
 }
 
@@ -67,8 +72,9 @@ impl Elim {
         ensures belongs { Belongs result words.new }
         ensures kind { (unknowns_of result ≡ unknowns) × (modulus_of result ≡ value_of modulus) }
         ensures free { IsFree (value_of modulus) unknowns (kept_rows result words.new) }
+        ensures solvable { HasSolution (value_of modulus) unknowns (kept_rows result words.new) }
     {
-        lent::empty(modulus, unknowns, words);
+        lent::empty(unknowns, words);
         Elim {
             modulus,
             unknowns,
@@ -82,12 +88,14 @@ impl Elim {
         ensures belongs { Belongs self.new words.new }
         ensures kind { (unknowns_of self.new ≡ unknowns_of self.old) × (modulus_of self.new ≡ modulus_of self.old) }
         ensures free { IsFree (modulus_of self.old) (unknowns_of self.old) (kept_rows self.new words.new) }
+        ensures solvable { HasSolution (modulus_of self.old) (unknowns_of self.old) (kept_rows self.new words.new) }
     {
-        lent::empty(self.modulus, self.unknowns, words);
+        lent::empty(self.unknowns, words);
         self.failed = false;
     }
 
-    /// Adds an equation, and says what it did to the solutions. Once there is none, there is none until [`Elim::reset`].
+    /// Adds an equation, and says what it did to the solutions. Once there is none, each later equation is answered
+    /// `Contradiction`, until [`Elim::reset`].
     pub fn absorb(&mut self, words: &mut [u64], row: &[u64]) -> Rank
         requires belongs { Belongs self.old words.old }
         requires room { length row.now ≡ unknowns_of self.old + 1 }
@@ -95,31 +103,44 @@ impl Elim {
         ensures belongs { Belongs self.new words.new }
         ensures kind { (unknowns_of self.new ≡ unknowns_of self.old) × (modulus_of self.new ≡ modulus_of self.old) }
         ensures absorbed { IsAbsorbed self.old words.old self.new words.new row.now result }
+        ensures stays { (HasSolution (modulus_of self.old) (unknowns_of self.old) (kept_rows self.old words.old) → ⊥)
+            → result ≡ Rank.Contradiction }
     {
         if self.failed {
             return Rank::Contradiction;
         }
         let span = lent::load_row(self.unknowns, words, row);
+        self.absorb_at_hand(words, span)
+    }
+
+    /// Absorbs the row at hand where there is a solution, and keeps that none is left where it answers `Contradiction`.
+    fn absorb_at_hand(&mut self, words: &mut [u64], span: Lead) -> Rank
+        requires few { unknowns_of self.old ≤ 4096 }
+        requires room { (unknowns_of self.old + 4) * (unknowns_of self.old + 2) ≤ length words.old }
+        requires solvable { self.old.failed ≡ false }
+        requires laid_out { IsLaidOut (modulus_of self.old) (unknowns_of self.old) (rows_of (unknowns_of self.old) words.old)
+            (ends_of (unknowns_of self.old) words.old) }
+        requires residues { IsRow (modulus_of self.old) (unknowns_of self.old) (work_of (unknowns_of self.old) words.old) }
+        requires end { span.end ≤ unknowns_of self.old }
+        requires span { IsSpan (unknowns_of self.old) (work_of (unknowns_of self.old) words.old) span.place span.end }
+        ensures belongs { Belongs self.new words.new }
+        ensures kind { (unknowns_of self.new ≡ unknowns_of self.old) × (modulus_of self.new ≡ modulus_of self.old) }
+        ensures absorbed { IsAbsorbed self.old words.old self.new words.new (work_of (unknowns_of self.old) words.old) result }
+    {
         match lent::absorb_loaded(self.modulus, self.unknowns, words, span) {
             Rank::New => Rank::New,
             Rank::Same => Rank::Same,
             Rank::Contradiction => {
-                self.fail();
+                self.failed = true;
                 Rank::Contradiction
             }
         }
     }
 
-    /// Keeps that there is no solution.
-    fn fail(&mut self)
-        ensures { self.new ≡ record self.old { failed = true } }
-    {
-        self.failed = true;
-    }
-
     /// Adds the equation that has these values in these columns and zeros elsewhere, column 0 being the right side.
     ///
-    /// It costs no more for the unknowns that have no column.
+    /// What lies outside the span of its columns and of the rows that are taken from it is not read, so it costs no more for the
+    /// unknowns there.
     pub fn absorb_entries(&mut self, words: &mut [u64], columns: &[u32], values: &[u64]) -> Rank
         requires belongs { Belongs self.old words.old }
         requires lengths { length columns.now ≡ length values.now }
@@ -130,23 +151,18 @@ impl Elim {
         ensures kind { (unknowns_of self.new ≡ unknowns_of self.old) × (modulus_of self.new ≡ modulus_of self.old) }
         ensures absorbed { IsAbsorbed self.old words.old self.new words.new
             (row_with (unknowns_of self.old) columns.now values.now) result }
+        ensures stays { (HasSolution (modulus_of self.old) (unknowns_of self.old) (kept_rows self.old words.old) → ⊥)
+            → result ≡ Rank.Contradiction }
     {
         if self.failed {
             return Rank::Contradiction;
         }
         let span = lent::load_entries(self.modulus, self.unknowns, words, columns, values);
-        match lent::absorb_loaded(self.modulus, self.unknowns, words, span) {
-            Rank::New => Rank::New,
-            Rank::Same => Rank::Same,
-            Rank::Contradiction => {
-                self.fail();
-                Rank::Contradiction
-            }
-        }
+        self.absorb_at_hand(words, span)
     }
 
     /// Writes the independent unknowns, ascending, and answers how many there are: those for which two solutions agree on all
-    /// later unknowns and differ there. The places of `out` after them stay.
+    /// later unknowns and differ there.
     pub fn independents(&self, words: &[u64], out: &mut [u32]) -> usize
         requires belongs { Belongs self.now words.now }
         requires solvable { HasSolution (modulus_of self.now) (unknowns_of self.now) (kept_rows self.now words.now) }
@@ -209,100 +225,5 @@ impl Elim {
             return false;
         }
         lent::solve_loaned(self.modulus, self.unknowns, words, set, want, out)
-    }
-}
-
-#[cfg(test)]
-mod tests {
-    use super::*;
-
-    #[test]
-    fn without_rows_all_are_independent(rt: HostRuntime) {
-        let mut words = [7; 24];
-        let elim = Elim::start(Modulus::first(), 2, &mut words);
-        assert_eq!(rt; Elim::words(2), 24);
-        let mut out = [0; 2];
-        assert_eq!(rt; elim.independents(&words, &mut out), 2);
-        assert_eq!(rt; (out[0], out[1]), (1, 2));
-    }
-
-    #[test]
-    fn two_rows_tell_two_unknowns(rt: HostRuntime) {
-        let mut words = [7; 24];
-        let mut elim = Elim::start(Modulus::first(), 2, &mut words);
-        assert_eq!(rt; elim.absorb(&mut words, &[1, 1, 8]), Rank::New);
-        assert_eq!(rt;
-            elim.absorb(&mut words, &[1, 2305843009213693950, 2305843009213693949]),
-            Rank::New
-        );
-        assert_eq!(rt; elim.absorb(&mut words, &[2, 2, 16]), Rank::Same);
-        let mut out = [0; 2];
-        assert!(rt; elim.solve_over(&mut words, &[], &[2, 1], &mut out));
-        assert_eq!(rt; (out[0], out[1]), (5, 3));
-    }
-
-    #[test]
-    fn the_first_unknown_of_a_row_is_told(rt: HostRuntime) {
-        let mut words = [7; 35];
-        let mut elim = Elim::start(Modulus::first(), 3, &mut words);
-        let rank = elim.absorb(&mut words, &[1, 2, 3, 4]);
-        assert_eq!(rt; rank, Rank::New);
-        let mut free = [0; 3];
-        assert_eq!(rt; elim.independents(&words, &mut free), 2);
-        assert_eq!(rt; (free[0], free[1]), (2, 3));
-        assert_eq!(rt; elim.coefficient(&words, 1, 0), 4);
-    }
-
-    #[test]
-    fn other_unknowns_may_tell(rt: HostRuntime) {
-        let mut words = [7; 35];
-        let mut elim = Elim::start(Modulus::first(), 3, &mut words);
-        let _rank = elim.absorb(&mut words, &[1, 2, 3, 4]);
-        let mut out = [0; 3];
-        assert!(rt; elim.solve_over(&mut words, &[1, 2], &[3], &mut out));
-        assert_eq!(rt;
-            (out[0], out[1], out[2]),
-            (768614336404564650, 1537228672809129300, 1537228672809129302)
-        );
-    }
-
-    #[test]
-    fn too_few_unknowns_do_not_tell(rt: HostRuntime) {
-        let mut words = [7; 35];
-        let mut elim = Elim::start(Modulus::first(), 3, &mut words);
-        let _rank = elim.absorb(&mut words, &[1, 2, 3, 4]);
-        let mut few = [0; 2];
-        assert!(rt; !elim.solve_over(&mut words, &[1], &[3], &mut few));
-    }
-
-    #[test]
-    fn a_contradiction_stays_until_reset(rt: HostRuntime) {
-        let mut words = [7; 15];
-        let mut elim = Elim::start(Modulus::second(), 1, &mut words);
-        assert_eq!(rt; elim.absorb(&mut words, &[0, 1]), Rank::Contradiction);
-        assert_eq!(rt; elim.absorb(&mut words, &[0, 0]), Rank::Contradiction);
-        elim.reset(&mut words);
-        assert_eq!(rt; elim.absorb(&mut words, &[2, 1]), Rank::New);
-        let mut out = [0; 1];
-        assert!(rt; elim.solve_over(&mut words, &[], &[1], &mut out));
-        assert_eq!(rt; out[0], 4611686018427387892);
-    }
-
-    #[test]
-    fn rows_by_their_entries(rt: HostRuntime) {
-        let mut words = [7; 24];
-        let mut elim = Elim::start(Modulus::second(), 2, &mut words);
-        assert_eq!(rt;
-            elim.absorb_entries(&mut words, &[0, 2], &[6, 3]),
-            Rank::New
-        );
-        assert_eq!(rt; elim.absorb_entries(&mut words, &[], &[]), Rank::Same);
-        let mut out = [0; 2];
-        assert!(rt; elim.solve_over(&mut words, &[1], &[2], &mut out));
-        assert_eq!(rt; (out[0], out[1]), (0, 2));
-        assert_eq!(rt;
-            elim.absorb_entries(&mut words, &[0], &[1]),
-            Rank::Contradiction
-        );
     }
 }

@@ -2,7 +2,7 @@ use Rattle.std.proofs.Common.{◌+◌, ◌%◌, ap, sym, ◌∙◌, arith}
 use Rattle.std.proofs.Math.Nat.{zero-mod}
 use Rattle.prime_field.specs.Modulus.{value_of}
 use Rattle.prime_field.proofs.Moduli.{value_of-large}
-use Rattle.elim_core.proofs.Turns.{span_low, right_low}
+use Rattle.elim_core.proofs.Taken.{span_low, right_low}
 use Rattle.elim_core.proofs.Values.{sum-start, sum-next, sum-left}
 use Rattle.elim_core.proofs.substitution.solved.Goals as goal
 

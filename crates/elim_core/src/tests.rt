@@ -1,0 +1,180 @@
+//! Systems whose solutions are known.
+
+ghost use Rattle.std.specs.Prelude.{◌≡◌, ◌<◌, ◌≤◌};
+ghost use Rattle.elim_core.specs.Kept.{unknowns_of, modulus_of, kept_rows, Belongs, HasSolution};
+
+use super::*;
+use std::process::Abort;
+use std::test::Fail;
+
+#[test]
+fn without_rows_all_are_independent(rt: HostRuntime) {
+    let mut words = [7; 24];
+    let mut elim = Elim::start(Modulus::first(), 2, &mut words);
+    assert_eq!(rt; Elim::words(2), 24);
+    let mut out = [0; 2];
+    assert_eq!(rt; elim.independents(&words, &mut out), 2);
+    assert_eq!(rt; (out[0], out[1]), (1, 2));
+    assert_eq!(rt; elim.absorb(&mut words, &[0, 0, 0]), Rank::Same);
+    let mut list = [7; 3];
+    assert!(rt; elim.solve_over(&mut words, &[1, 2], &[2], &mut list));
+    assert_eq!(rt; list, [0, 1, 0]);
+}
+
+#[test]
+fn a_sum_and_a_difference_tell_two_unknowns(rt: HostRuntime) {
+    let mut words = [7; 24];
+    let mut elim = Elim::start(Modulus::first(), 2, &mut words);
+    assert_eq!(rt; elim.absorb(&mut words, &[1, 1, 3]), Rank::New);
+    assert_eq!(rt;
+        elim.absorb(&mut words, &[1, 2305843009213693950, 5]),
+        Rank::New
+    );
+    let mut out = [7; 2];
+    assert!(rt; elim.solve_over(&mut words, &[], &[1, 2], &mut out));
+    assert_eq!(rt; out, [4, 2305843009213693950]);
+    assert_eq!(rt; elim.absorb(&mut words, &[2, 0, 8]), Rank::Same);
+    assert!(rt; elim.solve_over(&mut words, &[], &[2, 1], &mut out));
+    assert_eq!(rt; out, [2305843009213693950, 4]);
+}
+
+#[test]
+fn a_row_may_decide_what_another_leaves_open(rt: HostRuntime) {
+    let mut words = [7; 15];
+    let mut elim = Elim::start(Modulus::second(), 1, &mut words);
+    assert_eq!(rt; elim.absorb(&mut words, &[5, 5]), Rank::New);
+    assert_eq!(rt; elim.absorb(&mut words, &[1, 1]), Rank::Same);
+    let mut out = [7; 1];
+    assert!(rt; elim.solve_over(&mut words, &[], &[1], &mut out));
+    assert_eq!(rt; out, [1]);
+    elim.reset(&mut words);
+    assert_eq!(rt; elim.absorb(&mut words, &[0, 0]), Rank::Same);
+    assert_eq!(rt; elim.absorb(&mut words, &[1, 1]), Rank::New);
+    assert!(rt; elim.solve_over(&mut words, &[], &[1], &mut out));
+    assert_eq!(rt; out, [1]);
+}
+
+#[test]
+fn a_contradiction_stays_until_reset(rt: HostRuntime) {
+    let mut words = [7; 15];
+    let mut elim = Elim::start(Modulus::second(), 1, &mut words);
+    assert_eq!(rt; elim.absorb(&mut words, &[0, 1]), Rank::Contradiction);
+    assert_eq!(rt; elim.absorb(&mut words, &[0, 0]), Rank::Contradiction);
+    assert_eq!(rt;
+        elim.absorb_entries(&mut words, &[1], &[1]),
+        Rank::Contradiction
+    );
+    let mut out = [7; 1];
+    assert!(rt; !elim.solve_over(&mut words, &[], &[1], &mut out));
+    elim.reset(&mut words);
+    assert_eq!(rt; elim.absorb(&mut words, &[2, 1]), Rank::New);
+    assert_eq!(rt; elim.absorb(&mut words, &[4, 2]), Rank::Same);
+    assert!(rt; elim.solve_over(&mut words, &[], &[1], &mut out));
+    assert_eq!(rt; out, [4611686018427387892]);
+}
+
+/// Of one row x + 2 y = 7 the second unknown is independent, and tells the first.
+fn check_one_row(rt: &impl Abort, modulus: Modulus) {
+    let mut words = [7; 24];
+    let mut elim = Elim::start(modulus, 2, &mut words);
+    let minus_two = modulus.neg(2);
+    assert_eq!(rt; elim.absorb(&mut words, &[1, 2, 7]), Rank::New);
+    let mut own = [0; 2];
+    assert_eq!(rt; elim.independents(&words, &mut own), 1);
+    assert_eq!(rt; own[0], 2);
+    assert_eq!(rt; elim.coefficient(&words, 1, 0), 7);
+    let mut out = [0; 4];
+    assert!(rt; elim.solve_over(&mut words, &[2], &[1, 2], &mut out));
+    assert_eq!(rt; out, [minus_two, 7, 1, 0]);
+}
+
+#[test]
+fn the_first_unknown_of_a_row_is_told(rt: HostRuntime) {
+    check_one_row(&rt, Modulus::first());
+    check_one_row(&rt, Modulus::second());
+}
+
+#[test]
+fn other_unknowns_may_tell_but_not_too_few(rt: HostRuntime) {
+    let mut words = [7; 35];
+    let mut elim = Elim::start(Modulus::first(), 3, &mut words);
+    let _rank = elim.absorb(&mut words, &[1, 2, 3, 4]);
+    let mut few = [7; 2];
+    assert!(rt; !elim.solve_over(&mut words, &[1], &[3], &mut few));
+    let mut out = [7; 3];
+    assert!(rt; elim.solve_over(&mut words, &[1, 2], &[3], &mut out));
+    assert_eq!(rt;
+        out,
+        [768614336404564650, 1537228672809129300, 1537228672809129302]
+    );
+}
+
+#[test]
+fn rows_by_their_entries(rt: HostRuntime) {
+    let mut words = [7; 24];
+    let mut elim = Elim::start(Modulus::second(), 2, &mut words);
+    assert_eq!(rt;
+        elim.absorb_entries(&mut words, &[0, 2], &[6, 3]),
+        Rank::New
+    );
+    assert_eq!(rt; elim.absorb_entries(&mut words, &[], &[]), Rank::Same);
+    let mut out = [0; 2];
+    assert!(rt; elim.solve_over(&mut words, &[1], &[2], &mut out));
+    assert_eq!(rt; out, [0, 2]);
+    assert_eq!(rt;
+        elim.absorb_entries(&mut words, &[0], &[1]),
+        Rank::Contradiction
+    );
+}
+
+#[test]
+fn rows_that_follow_each_other_are_taken_at_once(rt: HostRuntime) {
+    let mut words = [7; 48];
+    let mut elim = Elim::start(Modulus::second(), 4, &mut words);
+    assert_eq!(rt; elim.absorb(&mut words, &[1, 1, 1, 1, 10]), Rank::New);
+    assert_eq!(rt; elim.absorb(&mut words, &[0, 1, 2, 3, 20]), Rank::New);
+    assert_eq!(rt; elim.absorb(&mut words, &[3, 1, 4, 1, 21]), Rank::New);
+    assert_eq!(rt; elim.absorb(&mut words, &[2, 7, 1, 8, 51]), Rank::New);
+    let mut out = [7; 4];
+    assert!(rt; elim.solve_over(&mut words, &[], &[1, 2, 3, 4], &mut out));
+    assert_eq!(rt; out, [1, 2, 3, 4]);
+}
+
+/// The first independent unknown of three, with its number in what tells the unknown `j`.
+fn by_the_first(equations: &Elim, words: &[u64], j: u32) -> Option<(u32, u64)>
+    requires belongs { Belongs equations.now words.now }
+    requires three { unknowns_of equations.now ≡ 3 }
+    requires solvable { HasSolution (modulus_of equations.now) (unknowns_of equations.now) (kept_rows equations.now words.now) }
+    requires unknown { (0 < j) × (j ≤ 3) }
+{
+    let mut own = [0; 3];
+    if equations.independents(words, &mut own) == 0 {
+        return None;
+    }
+    Some((own[0], equations.coefficient(words, j, own[0])))
+}
+
+#[test]
+fn a_later_unknown_tells_the_first_by_its_multiple(rt: HostRuntime) {
+    let mut words = [7; 35];
+    let mut elim = Elim::start(Modulus::first(), 3, &mut words);
+    assert_eq!(rt; elim.absorb(&mut words, &[1, 2, 3, 4]), Rank::New);
+    assert_eq!(rt;
+        by_the_first(&elim, &words, 1),
+        Some((2, 2305843009213693949))
+    );
+}
+
+fn may_be_shared<T: Send + Sync>(_value: &T) {}
+
+#[test]
+fn sparse_rows_and_eliminations_go_to_other_threads(rt: HostRuntime) -> Result<(), Fail> {
+    let row = SparseRow {
+        columns: Items::from_slice(rt.alloc(), &[0, 2])?,
+    };
+    assert!(rt; row.columns.as_slice() == [0, 2].as_slice());
+    may_be_shared(&row);
+    let mut words = [7; 24];
+    may_be_shared(&Elim::start(Modulus::second(), 2, &mut words));
+    Ok(())
+}
