@@ -1,1 +1,12 @@
+pub mod Bound
+pub mod Enumeration
+pub mod Expansion
+pub mod Mono
+pub mod Moved
+pub mod Pair
+pub mod Places
 pub mod Point
+pub mod Polynomial
+pub mod Powers
+pub mod Shifted
+pub mod Univariate

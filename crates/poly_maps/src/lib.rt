@@ -1,9 +1,37 @@
-//! Polynomials over residues, and the points at which they are taken. Today it has the points.
+//! Polynomials over residues, and the points at which they are taken.
 #![tactic(auto)]
 
+mod bound;
+mod degrees;
+mod enumeration;
+mod laws;
+mod mono;
+mod moving;
+mod pair;
 mod point;
+mod poly;
+mod powers;
+mod ray;
+mod shift;
+mod term_list;
+mod zeros;
 
+pub use bound::{Bound, Bounds};
+pub use degrees::{product_degrees, product_degrees_at_most};
+pub use enumeration::monomials;
+pub use laws::{
+    coefficients_pin, congruent_values, cross_equality, entries_pin, leading_is_greatest,
+    members_pin, product_value, sums, within_by_degrees,
+};
+pub use mono::Mono;
+pub use moving::{moved_degrees, moved_there_and_back, moved_value, ray_value};
+pub use pair::Pair;
 pub use point::Point;
+pub use poly::Poly;
+pub use zeros::few_zeros;
+
+/// Memory ran out.
+pub type NoMemory = std::alloc::AllocError;
 
 #[cfg(test)]
 mod tests {
