@@ -2,7 +2,7 @@
 use Rattle.std.specs.Prelude.{◌≡◌, ℕ, ◌+◌, ◌-◌, ◌*◌, ◌≤◌, ◌==◌, nat_le, Bool, true, false, ◌&&◌, if◌then◌else◌, List, [], ◌∷◌, length, slice_index, sum, All, Option, Some, None}
 use Rattle.std.specs.List.{list_all}
 use Rattle.basic_nodes.specs.declared.lengths.NodeShape.{NodeShape}
-use Rattle.basic_nodes.specs.declared.lengths.NodeShape.TheVariants.{Eval, Take, Slice, Chain, Sum, Product, Matmul}
+use Rattle.basic_nodes.specs.declared.lengths.NodeShape.TheVariants.{Eval, Take, Slice, Chain, Sum, Product, Matmul, Solver}
 
 -- a position is from 1 to 262144
 abbrev pub IsPosition : ℕ → Type 0
@@ -26,6 +26,7 @@ IsShape Chain = Unit {0}
 IsShape Sum = Unit {0}
 IsShape Product = Unit {0}
 IsShape (Matmul rows mid cols) = IsMatmul rows mid cols
+IsShape (Solver entries wanted independent) = independent ≤ 4096
 
 -- a node of this kind names this many lists
 abbrev pub HasLists : NodeShape → ℕ → Type 0
@@ -36,6 +37,7 @@ HasLists Chain lists = Unit {0}
 HasLists Sum lists = 1 ≤ lists
 HasLists Product lists = 1 ≤ lists
 HasLists (Matmul rows mid cols) lists = lists ≡ 2
+HasLists (Solver entries wanted independent) lists = lists ≡ 1
 
 -- the node's own length, if the rule of its kind holds and the length is at most 262144
 abbrev pub ruled : Bool → ℕ → Option ℕ
@@ -61,3 +63,4 @@ length_rule Sum lengths = ruled (are_equal lengths) (slice_index lengths 0)
 length_rule Product lengths = ruled (are_equal lengths) (slice_index lengths 0)
 length_rule (Matmul rows mid cols) lengths =
     ruled (slice_index lengths 0 == rows * mid && slice_index lengths 1 == mid * cols) (rows * cols)
+length_rule (Solver entries wanted independent) lengths = ruled (slice_index lengths 0 == entries) (wanted * (independent + 1))

@@ -40,6 +40,13 @@ pub enum NodeShape {
         mid: usize,
         cols: usize,
     },
+    /// The solution of a system whose list has `entries` entries: for each of `wanted` unknowns its coefficients at the
+    /// `independent` unknowns and its constant.
+    Solver {
+        entries: usize,
+        wanted: usize,
+        independent: usize,
+    },
 }
 
 /// The most entries that the list of a node may have.
@@ -71,6 +78,14 @@ pub fn length_of(kind: &NodeShape, lengths: &[usize]) -> Result<usize, LengthErr
         NodeShape::Matmul { rows, mid, cols } => {
             let fits = lengths[0] == rows * mid && lengths[1] == mid * cols;
             ruled(fits, rows * cols)
+        }
+        NodeShape::Solver {
+            entries,
+            wanted,
+            independent,
+        } => {
+            let own = wanted.checked_mul(*independent + 1).ok_or(LengthError)?;
+            ruled(lengths[0] == *entries, own)
         }
     }
 }

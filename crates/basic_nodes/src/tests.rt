@@ -91,5 +91,13 @@ fn lengths_follow_the_rules(rt: HostRuntime) -> Result<(), Fail> {
     };
     assert_eq!(rt; length_of(&kind, &[6, 15]), Ok(10));
     assert_eq!(rt; length_of(&kind, &[15, 6]), Err(LengthError));
+
+    let kind = NodeShape::Solver {
+        entries: 12,
+        wanted: 2,
+        independent: 3,
+    };
+    assert_eq!(rt; length_of(&kind, &[12]), Ok(8));
+    assert_eq!(rt; length_of(&kind, &[11]), Err(LengthError));
     Ok(())
 }

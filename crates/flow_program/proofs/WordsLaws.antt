@@ -1,5 +1,5 @@
 -- The place that reading the words stops at is the one that their grammar gives, and there is only one.
-use Rattle.std.proofs.Common.{◌≡◌, ℕ, ◌+◌, ◌<◌, ◌≤◌, Bool, true, false, List, [], ◌∷◌, ◌++◌, length, take, drop, Option, Some, None, refl, sym, ◌∙◌, ap, subst, arith, inl, inr, cond, append_assoc, append-nil, length-append, zero-add, add-zero}
+use Rattle.std.proofs.Common.{◌≡◌, ℕ, zero, suc, ◌+◌, ◌<◌, ◌≤◌, Bool, true, false, List, [], ◌∷◌, ◌++◌, length, take, drop, Option, Some, None, refl, sym, ◌∙◌, ap, subst, arith, inl, inr, cond, append_assoc, append-nil, length-append, zero-add, add-zero}
 use Rattle.std.specs.Prelude.{codes, bytes_eq, ◌&&◌, ◌||◌, not, nat_le, count_by, is_none, filter, option_map, option_to_list, IfSome}
 use Rattle.std.specs.List.{list_any}
 use Rattle.std.proofs.lemmas.Bool.{cases_Bool, false≢true, leb-true, le-leb}
@@ -8,8 +8,8 @@ use Rattle.std.proofs.Math.Seq.{take-append-add}
 use Rattle.std.proofs.lemmas.List.Elements.{filter-append}
 use Rattle.std.proofs.lemmas.List.Folds.{list_any-append}
 use Rattle.std.proofs.lemmas.List.Sums.{sum_by-append}
-use Rattle.flow_program.specs.Words.{Request, Sample, asked, asked_sample, one_file, is_file, is_second, IsFront, IsBadAt}
-use Rattle.flow_program.specs.Parsed.{Parsed, Asks, BadAt, ended, parsed, parsed_from}
+use Rattle.flow_program.specs.Words.{Request, Sample, Learn, Grammar, asked, asked_sample, asked_learn, one_file, is_file, is_second, IsFront, StopsAt, IsBadAt}
+use Rattle.flow_program.specs.Parsed.{Parsed, Asks, BadAt, alone, ended, parsed, parsed_from, parsed_learn}
 
 -- the words that are no option
 abbrev others : List (List ℕ) → List (List ℕ)
@@ -99,50 +99,41 @@ at_most_one true = omega arith
 at_most_one false = omega arith
 
 -- words with a file are asked for
-sampled : (word : List ℕ) (rest : List (List ℕ)) (file : List ℕ) (second : Bool) → bytes_eq word (codes "sample") ≡ true → HasRead rest (Some file) second → asked (word ∷ rest) ≡ Some (Sample file second)
-sampled word rest file second e read =
+sampled : (rest : List (List ℕ)) (file : List ℕ) (second : Bool) → HasRead rest (Some file) second → asked_sample rest ≡ Some (Sample file second)
+sampled rest file second read =
     let few : nat_le (options rest) 1 ≡ true = le-leb (options rest) 1 (omega (arith, read.count, at_most_one second)) in
     let one : one_file (others rest) ≡ Some file = ap one_file read.files ∙ ap (λ b. cond b (Some file) None) read.named in
-    ap (λ b. cond b (asked_sample rest) None) e
-    ∙ ap (λ b. cond b (option_map (λ f. Sample f (list_any is_second rest)) (one_file (others rest))) None) few
+    ap (λ b. cond b (option_map (λ f. Sample f (list_any is_second rest)) (one_file (others rest))) None) few
     ∙ ap (λ o. option_map (λ f. Sample f (list_any is_second rest)) o) one
     ∙ ap (λ b. Some (Sample file b)) read.flag
 
 -- What has been read goes on to words that ask for something: with a file, or as it is.
-front_of : (word : List ℕ) (before : List (List ℕ)) (file : Option (List ℕ)) (second : Bool) → bytes_eq word (codes "sample") ≡ true → HasRead before file second → IsFront (word ∷ before)
-front_of word before None second e read = (codes "f" ∷ [], Sample (codes "f") second, sampled word (before ++ codes "f" ∷ []) (codes "f") second e (read_file before (codes "f") second refl refl read))
-front_of word before (Some file) second e read = ([], Sample file second, ap (λ ws. asked (word ∷ ws)) (append-nil before) ∙ sampled word before file second e read)
+front_of : (before : List (List ℕ)) (file : Option (List ℕ)) (second : Bool) → HasRead before file second → IsFront asked_sample before
+front_of before None second read = (codes "f" ∷ [], Sample (codes "f") second, sampled (before ++ codes "f" ∷ []) (codes "f") second (read_file before (codes "f") second refl refl read))
+front_of before (Some file) second read = ([], Sample file second, ap asked_sample (append-nil before) ∙ sampled before file second read)
 
 -- a front of a front is one
-front_take : (words : List (List ℕ)) (j : ℕ) → IsFront words → IsFront (take j words)
-front_take words j front = (drop j words ++ front.0, front.1, ap asked (sym (append_assoc (take j words) (drop j words) front.0) ∙ ap (λ ws. ws ++ front.0) (take-append-drop j words)) ∙ front.2)
-
--- what is asked for with `sample` in front
-behind_sample : (word : List ℕ) (rest : List (List ℕ)) (wish : Request) → asked (word ∷ rest) ≡ Some wish → (bytes_eq word (codes "sample") ≡ true) × IsAsked rest
-behind_sample word rest wish e = let parts = chosen (bytes_eq word (codes "sample")) (asked_sample rest) wish e in (parts.0, asked_is rest wish parts.1)
+front_take : (grammar : Grammar) (words : List (List ℕ)) (j : ℕ) → IsFront grammar words → IsFront grammar (take j words)
+front_take grammar words j front = (drop j words ++ front.0, front.1, ap grammar (sym (append_assoc (take j words) (drop j words) front.0) ∙ ap (λ ws. ws ++ front.0) (take-append-drop j words)) ∙ front.2)
 
 -- words that stop at a word with which nothing that is asked for goes on
-bad_here : (word : List ℕ) (before : List (List ℕ)) (next : List ℕ) (rest : List (List ℕ)) (file : Option (List ℕ)) (second : Bool) → bytes_eq word (codes "sample") ≡ true → HasRead before file second
-    → ((more : List (List ℕ)) → IsAsked (before ++ next ∷ more) → ⊥) → IsBadAt (word ∷ (before ++ next ∷ rest)) (length before + 2)
-bad_here word before next rest file second e read clash =
-    let words = word ∷ (before ++ next ∷ rest) in
-    let until : take (length before + 2) words ≡ word ∷ (before ++ next ∷ []) =
-    ap (λ n. take n words) (omega arith) ∙ take-append-add (word ∷ before) (next ∷ rest) 1 in
-    record {
-      refused = none_asked (asked words) (λ wish is. clash rest (behind_sample word (before ++ next ∷ rest) wish is).1);
-      fronts = λ j below. subst IsFront (sym (take-append-le j (word ∷ before) (next ∷ rest) (omega arith))) (front_take (word ∷ before) j (front_of word before file second e read));
-      breaks = λ within front.
-          let whole = subst IsFront until front in
-          clash whole.0 (subst IsAsked (append_assoc before (next ∷ []) whole.0) (behind_sample word ((before ++ next ∷ []) ++ whole.0) whole.1 whole.2).1);
-      within = omega (arith, length-append before (next ∷ rest));
-    }
+stops_here : (grammar : Grammar) (before : List (List ℕ)) (next : List ℕ) (rest : List (List ℕ)) → IsFront grammar before → ((more : List (List ℕ)) (wish : Request) → grammar (before ++ next ∷ more) ≡ Some wish → ⊥)
+    → StopsAt grammar (before ++ next ∷ rest) (length before + 1)
+stops_here grammar before next rest front clash = record {
+  refused = none_asked (grammar (before ++ next ∷ rest)) (λ wish is. clash rest wish is);
+  fronts = λ j below. subst (IsFront grammar) (sym (take-append-le j before (next ∷ rest) (omega arith))) (front_take grammar before j front);
+  breaks = λ within further.
+      let whole = subst (IsFront grammar) (take-append-add before (next ∷ rest) 1) further in
+      clash whole.0 whole.1 (ap grammar (sym (append_assoc before (next ∷ []) whole.0)) ∙ whole.2);
+  within = omega (arith, length-append before (next ∷ rest));
+}
 
--- words that end before a file
-bad_end : (word : List ℕ) (before : List (List ℕ)) (second : Bool) → bytes_eq word (codes "sample") ≡ true → HasRead before None second → IsBadAt (word ∷ before) (length before + 2)
-bad_end word before second e read = record {
-  refused = none_asked (asked (word ∷ before)) (λ wish is. let asks = (behind_sample word before wish is).1 in let clash : [] ≡ asks.file ∷ [] = sym read.files ∙ asks.alone in cc);
-  fronts = λ j below. front_take (word ∷ before) j (front_of word before None second e read);
-  breaks = λ within front. absurd (omega arith);
+-- words that end before anything is asked for
+stops_end : (grammar : Grammar) (words : List (List ℕ)) → IsFront grammar words → ((wish : Request) → grammar words ≡ Some wish → ⊥) → StopsAt grammar words (length words + 1)
+stops_end grammar words front clash = record {
+  refused = none_asked (grammar words) clash;
+  fronts = λ j below. front_take grammar words j front;
+  breaks = λ within further. absurd (omega arith);
   within = omega arith;
 }
 
@@ -174,79 +165,143 @@ next_place k before next e = omega (arith, length-append before (next ∷ []), e
 bad_place : (j k : ℕ) → BadAt j ≡ BadAt k → j ≡ k
 bad_place j k e = cc
 
--- what a place or a wish says of the words
-Means : Parsed → List (List ℕ) → Type 0
-Means (Asks wish) words = asked words ≡ Some wish
-Means (BadAt place) words = IsBadAt words place
+-- what a place or a wish says of the words behind a command's name
+Means : Grammar → Parsed → List (List ℕ) → Type 0
+Means grammar (Asks wish) words = grammar words ≡ Some wish
+Means grammar (BadAt place) words = (k : ℕ) × (place ≡ k + 1) × StopsAt grammar words k
 
-bad_means : (words : List (List ℕ)) (n k : ℕ) → k ≡ n → IsBadAt words n → Means (BadAt k) words
+bad_means : (grammar : Grammar) (words : List (List ℕ)) (place k : ℕ) → place ≡ k + 1 → StopsAt grammar words k → Means grammar (BadAt place) words
 unfolding Means
-bad_means words n k e bad = subst (λ (p : ℕ). IsBadAt words p) (sym e) bad
+bad_means grammar words place k e stops = (k, e, stops)
 
-end_means : (word : List ℕ) (before : List (List ℕ)) (file : Option (List ℕ)) (second : Bool) (k : ℕ) → bytes_eq word (codes "sample") ≡ true → HasRead before file second → k ≡ length before + 2 → Means (ended k file second) (word ∷ before)
+stop_means : (before : List (List ℕ)) (next : List ℕ) (rest : List (List ℕ)) (file : Option (List ℕ)) (second : Bool) (place : ℕ) → HasRead before file second → place ≡ length before + 2 → ((more : List (List ℕ)) → IsAsked (before ++ next ∷ more) → ⊥)
+    → Means asked_sample (BadAt place) (before ++ next ∷ rest)
+stop_means before next rest file second place read at clash =
+    bad_means asked_sample (before ++ next ∷ rest) place (length before + 1) (omega (arith, at)) (stops_here asked_sample before next rest (front_of before file second read) (λ more wish is. clash more (asked_is (before ++ next ∷ more) wish is)))
+
+end_means : (before : List (List ℕ)) (file : Option (List ℕ)) (second : Bool) (place : ℕ) → HasRead before file second → place ≡ length before + 2 → Means asked_sample (ended place file second) before
 unfolding Means
-end_means word before None second k e read at = bad_means (word ∷ before) (length before + 2) k at (bad_end word before second e read)
-end_means word before (Some file) second k e read at = sampled word before file second e read
+end_means before None second place read at = bad_means asked_sample before place (length before + 1) (omega (arith, at)) (stops_end asked_sample before (front_of before None second read) (λ wish is. let asks = asked_is before wish is in let clash : [] ≡ asks.file ∷ [] = sym read.files ∙ asks.alone in cc))
+end_means before (Some file) second place read at = sampled before file second read
 
 -- the words behind `sample`, the first of which have been read
-scan : (rest : List (List ℕ)) (word : List ℕ) (before : List (List ℕ)) (file : Option (List ℕ)) (second : Bool) (k : ℕ) → bytes_eq word (codes "sample") ≡ true → HasRead before file second → k ≡ length before + 2
-    → Means (parsed_from k file second rest) (word ∷ (before ++ rest))
-scan [] word before file second k e read at = subst (λ (ws : List (List ℕ)). Means (ended k file second) (word ∷ ws)) (sym (append-nil before)) (end_means word before file second k e read at)
-scan (next ∷ rest) word before file second k e read at =
-    let words = word ∷ (before ++ next ∷ rest) in
+scan : (rest : List (List ℕ)) (before : List (List ℕ)) (file : Option (List ℕ)) (second : Bool) (k : ℕ) → HasRead before file second → k ≡ length before + 2
+    → Means asked_sample (parsed_from k file second rest) (before ++ rest)
+scan [] before file second k read at = subst (λ (ws : List (List ℕ)). Means asked_sample (ended k file second) ws) (sym (append-nil before)) (end_means before file second k read at)
+scan (next ∷ rest) before file second k read at =
+    let words = before ++ next ∷ rest in
     let joined : (before ++ next ∷ []) ++ rest ≡ before ++ next ∷ rest = append_assoc before (next ∷ []) rest in
     elim (cases_Bool (is_second next)) [
-      | inl option ↦ subst (λ b. Means (cond b (cond second (BadAt k) (parsed_from (k + 1) file true rest)) (cond (is_file next && is_none file) (parsed_from (k + 1) (Some next) second rest) (BadAt k))) words) (sym option)
-          (option_means second file read (λ free. subst (λ (ws : List (List ℕ)). Means (parsed_from (k + 1) file true rest) (word ∷ ws)) joined (scan rest word (before ++ next ∷ []) file true (k + 1) e (read_second before file next option free) (next_place k before next at)))
-          (λ taken. bad_means words (length before + 2) k at (bad_here word before next rest file true e taken (twice before next file option taken))))
-      | inr plain ↦ subst (λ b. Means (cond b (cond second (BadAt k) (parsed_from (k + 1) file true rest)) (cond (is_file next && is_none file) (parsed_from (k + 1) (Some next) second rest) (BadAt k))) words) (sym plain)
+      | inl option ↦ subst (λ b. Means asked_sample (cond b (cond second (BadAt k) (parsed_from (k + 1) file true rest)) (cond (is_file next && is_none file) (parsed_from (k + 1) (Some next) second rest) (BadAt k))) words) (sym option)
+          (option_means second file read (λ free. subst (λ (ws : List (List ℕ)). Means asked_sample (parsed_from (k + 1) file true rest) ws) joined (scan rest (before ++ next ∷ []) file true (k + 1) (read_second before file next option free) (next_place k before next at)))
+          (λ taken. stop_means before next rest file true k taken at (twice before next file option taken)))
+      | inr plain ↦ subst (λ b. Means asked_sample (cond b (cond second (BadAt k) (parsed_from (k + 1) file true rest)) (cond (is_file next && is_none file) (parsed_from (k + 1) (Some next) second rest) (BadAt k))) words) (sym plain)
           (elim (cases_Bool (is_file next)) [
-            | inl named ↦ subst (λ b. Means (cond (b && is_none file) (parsed_from (k + 1) (Some next) second rest) (BadAt k)) words) (sym named)
-                (file_means file read (λ free. subst (λ (ws : List (List ℕ)). Means (parsed_from (k + 1) (Some next) second rest) (word ∷ ws)) joined (scan rest word (before ++ next ∷ []) (Some next) second (k + 1) e (read_file before next second plain named free) (next_place k before next at)))
-                (λ first taken. bad_means words (length before + 2) k at (bad_here word before next rest (Some first) second e taken (beside before next first second plain taken))))
-            | inr nameless ↦ subst (λ b. Means (cond (b && is_none file) (parsed_from (k + 1) (Some next) second rest) (BadAt k)) words) (sym nameless)
-                (bad_means words (length before + 2) k at (bad_here word before next rest file second e read (unnamed before next file second plain nameless read)))
+            | inl named ↦ subst (λ b. Means asked_sample (cond (b && is_none file) (parsed_from (k + 1) (Some next) second rest) (BadAt k)) words) (sym named)
+                (file_means file read (λ free. subst (λ (ws : List (List ℕ)). Means asked_sample (parsed_from (k + 1) (Some next) second rest) ws) joined (scan rest (before ++ next ∷ []) (Some next) second (k + 1) (read_file before next second plain named free) (next_place k before next at)))
+                (λ first taken. stop_means before next rest (Some first) second k taken at (beside before next first second plain taken)))
+            | inr nameless ↦ subst (λ b. Means asked_sample (cond (b && is_none file) (parsed_from (k + 1) (Some next) second rest) (BadAt k)) words) (sym nameless)
+                (stop_means before next rest file second k read at (unnamed before next file second plain nameless read))
           ])
     ]
   where
-    option_means : (s : Bool) (f : Option (List ℕ)) → HasRead before f s → (HasRead before f false → Means (parsed_from (k + 1) f true rest) (word ∷ (before ++ next ∷ rest))) → (HasRead before f true → Means (BadAt k) (word ∷ (before ++ next ∷ rest)))
-        → Means (cond s (BadAt k) (parsed_from (k + 1) f true rest)) (word ∷ (before ++ next ∷ rest))
+    option_means : (s : Bool) (f : Option (List ℕ)) → HasRead before f s → (HasRead before f false → Means asked_sample (parsed_from (k + 1) f true rest) (before ++ next ∷ rest)) → (HasRead before f true → Means asked_sample (BadAt k) (before ++ next ∷ rest))
+        → Means asked_sample (cond s (BadAt k) (parsed_from (k + 1) f true rest)) (before ++ next ∷ rest)
     option_means true f has goes stops = stops has
     option_means false f has goes stops = goes has
 
-    file_means : (f : Option (List ℕ)) → HasRead before f second → (HasRead before None second → Means (parsed_from (k + 1) (Some next) second rest) (word ∷ (before ++ next ∷ rest)))
-        → ((first : List ℕ) → HasRead before (Some first) second → Means (BadAt k) (word ∷ (before ++ next ∷ rest)))
-        → Means (cond (true && is_none f) (parsed_from (k + 1) (Some next) second rest) (BadAt k)) (word ∷ (before ++ next ∷ rest))
+    file_means : (f : Option (List ℕ)) → HasRead before f second → (HasRead before None second → Means asked_sample (parsed_from (k + 1) (Some next) second rest) (before ++ next ∷ rest))
+        → ((first : List ℕ) → HasRead before (Some first) second → Means asked_sample (BadAt k) (before ++ next ∷ rest))
+        → Means asked_sample (cond (true && is_none f) (parsed_from (k + 1) (Some next) second rest) (BadAt k)) (before ++ next ∷ rest)
     file_means None has goes stops = goes has
     file_means (Some first) has goes stops = stops first has
 
--- what reading all words says of them
-read_means : (words : List (List ℕ)) → Means (parsed words) words
+-- a word that names no file is learned by nothing
+unlearned : (file : List ℕ) → is_file file ≡ false → (rest : List (List ℕ)) → asked_learn (file ∷ rest) ≡ None
+unlearned file e [] = ap (λ b. option_map (λ f. Learn f) (cond b (Some file) None)) e
+unlearned file e (more ∷ rest) = refl
+
+-- a file alone is learned
+learned : (file : List ℕ) → is_file file ≡ true → asked_learn (file ∷ []) ≡ Some (Learn file)
+learned file e = ap (λ b. option_map (λ f. Learn f) (cond b (Some file) None)) e
+
+-- words behind a file are learned by nothing
+learn_alone : (file : List ℕ) (rest : List (List ℕ)) → is_file file ≡ true → Means asked_learn (alone 3 (Learn file) rest) (file ∷ rest)
 unfolding Means
-read_means [] = record {
-  refused = refl;
-  fronts = λ j below. let none : j ≡ 0 = omega arith in subst (λ (n : ℕ). IsFront (take n [])) (sym none) (codes "sample" ∷ codes "f" ∷ [], Sample (codes "f") false, refl);
-  breaks = λ within front. absurd (omega arith);
-  within = omega arith;
-}
-read_means (word ∷ rest) =
-    elim (cases_Bool (bytes_eq word (codes "sample"))) [
-      | inl e ↦ subst (λ b. Means (cond b (parsed_from 2 None false rest) (BadAt 1)) (word ∷ rest)) (sym e) (scan rest word [] None false 2 e read_none refl)
-      | inr e ↦ subst (λ b. Means (cond b (parsed_from 2 None false rest) (BadAt 1)) (word ∷ rest)) (sym e) (record {
-        refused = ap (λ b. cond b (asked_sample rest) None) e;
-        fronts = λ j below. let none : j ≡ 0 = omega arith in subst (λ (n : ℕ). IsFront (take n (word ∷ rest))) (sym none) (codes "sample" ∷ codes "f" ∷ [], Sample (codes "f") false, refl);
-        breaks = λ within front. false≢true (sym e ∙ (behind_sample word front.0 front.1 front.2).0);
-        within = omega arith;
-      })
+learn_alone file [] e = learned file e
+learn_alone file (more ∷ rest) e = (2, refl, stops_here asked_learn (file ∷ []) more rest ([], Learn file, learned file e) (λ further wish is. cc))
+
+-- the words behind `learn`
+learn_means : (rest : List (List ℕ)) → Means asked_learn (parsed_learn rest) rest
+unfolding Means
+learn_means [] = (1, refl, stops_end asked_learn [] (codes "f" ∷ [], Learn (codes "f"), refl) (λ wish is. cc))
+learn_means (file ∷ rest) =
+    elim (cases_Bool (is_file file)) [
+      | inl e ↦ subst (λ b. Means asked_learn (cond b (alone 3 (Learn file) rest) (BadAt 2)) (file ∷ rest)) (sym e) (learn_alone file rest e)
+      | inr e ↦ subst (λ b. Means asked_learn (cond b (alone 3 (Learn file) rest) (BadAt 2)) (file ∷ rest)) (sym e)
+          (1, refl, stops_here asked_learn [] file rest (codes "f" ∷ [], Learn (codes "f"), refl) (λ more wish is. let none : asked_learn (file ∷ more) ≡ None = unlearned file e more in cc))
     ]
 
+-- no words ask for nothing yet, and may go on
+pub no_words : IsFront asked []
+no_words = (codes "learn" ∷ codes "f" ∷ [], Learn (codes "f"), refl)
+
+-- words whose first is a command's name stop where those behind it do
+behind_name : (grammar : Grammar) (name : List ℕ) (rest : List (List ℕ)) (k : ℕ) → ((words : List (List ℕ)) → asked (name ∷ words) ≡ grammar words) → StopsAt grammar rest k → IsBadAt (name ∷ rest) (suc k)
+behind_name grammar name rest k same stops = record {
+  refused = same rest ∙ stops.refused;
+  fronts = λ j below. fronts j below;
+  breaks = λ within front. stops.breaks (omega arith) (front.0, front.1, sym (same (take k rest ++ front.0)) ∙ front.2);
+  within = omega (arith, stops.within);
+}
+  where
+    fronts : (j : ℕ) → j < suc k → IsFront asked (take j (name ∷ rest))
+    fronts zero below = no_words
+    fronts (suc j) below =
+        let front = stops.fronts j (omega arith) in
+        (front.0, front.1, same (take j rest ++ front.0) ∙ front.2)
+
+-- what reading the words behind a command's name says of all words
+RightlyRead : Parsed → List (List ℕ) → Type 0
+RightlyRead (Asks wish) words = asked words ≡ Some wish
+RightlyRead (BadAt place) words = IsBadAt words place
+
+named_means : (grammar : Grammar) (name : List ℕ) (rest : List (List ℕ)) (found : Parsed) → ((words : List (List ℕ)) → asked (name ∷ words) ≡ grammar words) → Means grammar found rest → RightlyRead found (name ∷ rest)
+unfolding Means RightlyRead
+named_means grammar name rest (Asks wish) same means = same rest ∙ means
+named_means grammar name rest (BadAt place) same means = subst (λ (p : ℕ). IsBadAt (name ∷ rest) p) (omega (arith, means.1)) (behind_name grammar name rest means.0 same means.2)
+
+-- a first word that is no command's name
+unnamed_means : (name : List ℕ) (rest : List (List ℕ)) → ((words : List (List ℕ)) → asked (name ∷ words) ≡ None) → IsBadAt (name ∷ rest) 1
+unnamed_means name rest none = stops_here asked [] name rest no_words (λ more wish is. let nothing : asked (name ∷ more) ≡ None = none more in cc)
+
+-- what reading all words says of them
+read_means : (words : List (List ℕ)) → RightlyRead (parsed words) words
+unfolding RightlyRead
+read_means [] = stops_end asked [] no_words (λ wish is. cc)
+read_means (word ∷ rest) =
+    elim (cases_Bool (bytes_eq word (codes "sample"))) [
+      | inl e ↦ subst (λ b. RightlyRead (cond b (parsed_from 2 None false rest) (cond (bytes_eq word (codes "learn")) (parsed_learn rest) (BadAt 1))) (word ∷ rest)) (sym e)
+          (named_means asked_sample word rest (parsed_from 2 None false rest) (λ words. ap (λ b. cond b (asked_sample words) (cond (bytes_eq word (codes "learn")) (asked_learn words) None)) e) (scan rest [] None false 2 read_none refl))
+      | inr e ↦ subst (λ b. RightlyRead (cond b (parsed_from 2 None false rest) (cond (bytes_eq word (codes "learn")) (parsed_learn rest) (BadAt 1))) (word ∷ rest)) (sym e)
+          (elim (cases_Bool (bytes_eq word (codes "learn"))) [
+            | inl f ↦ subst (λ b. RightlyRead (cond b (parsed_learn rest) (BadAt 1)) (word ∷ rest)) (sym f)
+                (named_means asked_learn word rest (parsed_learn rest) (λ words. other e words ∙ ap (λ b. cond b (asked_learn words) None) f) (learn_means rest))
+            | inr f ↦ subst (λ b. RightlyRead (cond b (parsed_learn rest) (BadAt 1)) (word ∷ rest)) (sym f)
+                (unnamed_means word rest (λ words. other e words ∙ ap (λ b. cond b (asked_learn words) None) f))
+          ])
+    ]
+  where
+    other : bytes_eq word (codes "sample") ≡ false → (words : List (List ℕ)) → asked (word ∷ words) ≡ cond (bytes_eq word (codes "learn")) (asked_learn words) None
+    other e words = ap (λ b. cond b (asked_sample words) (cond (bytes_eq word (codes "learn")) (asked_learn words) None)) e
+
 pub parsed_bad : (words : List (List ℕ)) (k : ℕ) → parsed words ≡ BadAt k → IsBadAt words k
-unfolding Means
-parsed_bad words k is = subst (λ (p : Parsed). Means p words) is (read_means words)
+unfolding RightlyRead
+parsed_bad words k is = subst (λ (p : Parsed). RightlyRead p words) is (read_means words)
 
 pub parsed_asks : (words : List (List ℕ)) (wish : Request) → parsed words ≡ Asks wish → asked words ≡ Some wish
-unfolding Means
-parsed_asks words wish is = subst (λ (p : Parsed). Means p words) is (read_means words)
+unfolding RightlyRead
+parsed_asks words wish is = subst (λ (p : Parsed). RightlyRead p words) is (read_means words)
 
 -- Of two places the lesser breaks where the greater still goes on, so there is one.
 not_before : (words : List (List ℕ)) (j k : ℕ) → IsBadAt words j → IsBadAt words k → j < k → ⊥

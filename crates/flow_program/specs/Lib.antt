@@ -1,5 +1,6 @@
 pub mod Answer
-pub mod Learning
+pub mod Jobs
+pub mod Lessons
 pub mod Outside
 pub mod Parsed
 pub mod Refusals
@@ -7,4 +8,5 @@ pub mod Reply
 pub mod Run
 pub mod Sampled
 pub mod Status
+pub mod Tasks
 pub mod Words

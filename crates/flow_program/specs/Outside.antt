@@ -3,9 +3,12 @@ use Rattle.std.specs.Prelude.{◌≡◌, ℕ, List, [], Option, Some, None, ⊤,
 use Rattle.flow_base.specs.Counts.{Rose}
 use Rattle.flow_base.specs.Shelf.{ShelfView}
 use Rattle.flow_base.specs.Sink.{SinkView, Adds, AddsFront}
-use Rattle.flow_program.specs.Words.{Request, Sample, asked}
+use Rattle.flow_program.specs.Words.{Request, asked, file_of}
+use Rattle.flow_program.specs.Tasks.{task_of}
 use Rattle.flow_program.specs.Answer.{Answer}
-use Rattle.flow_program.specs.Run.{RunAnswer, SampleAnswer}
+use Rattle.flow_program.specs.Jobs.{FileAnswer, IsLearned}
+use Rattle.flow_program.specs.Run.{Premise, RunAnswer}
+use Rattle.flow_program.specs.declared.task.Task.{Task}
 
 -- the shelf and the two sinks at one moment
 pub record Outside : Type 0 where
@@ -22,20 +25,30 @@ MayStand None bytes = ⊤
 MayStand (Some None) bytes = ⊥
 MayStand (Some (Some told)) bytes = told ≡ bytes
 
--- the answer of sampling bytes that may stand under a name, modulo m
-abbrev pub StandsSampled : ℕ → Option (Option (List ℕ)) → Answer → Type 0
-StandsSampled m told answer = (bytes : List ℕ) × MayStand told bytes × SampleAnswer m bytes answer
+-- under its premise, this is the answer of bytes that may stand under a name, with which this is to be done
+pub record StandsAnswered (what : Task) (told : Option (Option (List ℕ))) (answer : Answer) : Type 0 where
+  pub bytes : List ℕ
+  pub stood : MayStand told bytes
+  pub right : Premise answer → FileAnswer what bytes answer
 
 -- bytes that may stand under the file that is asked for
 abbrev pub MayStandAsked : Option Request → ShelfView → List ℕ → Type 0
 MayStandAsked None shelf bytes = ⊤
-MayStandAsked (Some (Sample file second)) shelf bytes = MayStand (shelf.files file) bytes
+MayStandAsked (Some wish) shelf bytes = MayStand (shelf.files (file_of wish)) bytes
 
--- the answer of the words and of the bytes that stood under the file that they name
+-- under its premise, this is the answer of the words and of the bytes that stood under the file that they name
 pub record IsRightAnswer (words : List (List ℕ)) (shelf : ShelfView) (answer : Answer) : Type 0 where
   pub bytes : List ℕ
   pub stood : MayStandAsked (asked words) shelf bytes
-  pub right : RunAnswer words bytes answer
+  pub right : Premise answer → RunAnswer words bytes answer
+
+-- the file that is asked for is there, and all its graphs are learned
+pub record IsLearnable (words : List (List ℕ)) (shelf : ShelfView) : Type 0 where
+  pub wish : Request
+  pub asks : asked words ≡ Some wish
+  pub bytes : List ℕ
+  pub stands : shelf.files (file_of wish) ≡ Some (Some bytes)
+  pub learned : IsLearned (task_of wish) bytes
 
 -- the run told its answer: the status, and all of out and err
 pub record Tells (words : List (List ℕ)) (status : ℕ) (old new : Outside) : Type 0 where
@@ -65,7 +78,7 @@ pub record TellsAnswerFront (words : List (List ℕ)) (old new : Outside) : Type
 -- the shelf's count of the file that is asked for rose
 abbrev pub FileRose : Option Request → ShelfView → ShelfView → Type 0
 FileRose None old new = ⊥
-FileRose (Some (Sample file second)) old new = Rose (old.faults file) (new.faults file)
+FileRose (Some wish) old new = Rose (old.faults (file_of wish)) (new.faults (file_of wish))
 
 abbrev pub SinkRose : Outside → Outside → Type 0
 SinkRose old new = Rose old.out.faults new.out.faults ⊎ Rose old.err.faults new.err.faults

@@ -1,5 +1,5 @@
 -- The texts that say why a file, or the graphs that it says, are refused.
-use Rattle.std.specs.Prelude.{ℕ, List, [], ◌++◌, map, codes, slice_index_or}
+use Rattle.std.specs.Prelude.{ℕ, ◌+◌, List, [], ◌∷◌, ◌++◌, map, codes, slice_index_or}
 use Rattle.std.specs.Fmt.{decimal}
 use Rattle.ratfun_text.specs.declared.parse.ExprKind.{ExprKind}
 use Rattle.ratfun_text.specs.declared.parse.ExprKind.TheVariants as expression
@@ -8,6 +8,9 @@ use Rattle.graph_file.specs.declared.error.FileKind.TheVariants.{Syntax, Version
 use Rattle.graph_file.specs.declared.graph.Graph.{Graph}
 use Rattle.graph_file.specs.declared.graph.Source.{Source}
 use Rattle.graph_file.specs.declared.graph.Source.TheVariants as source
+use Rattle.graph_eval.specs.declared.outcome.Cause.{Cause}
+use Rattle.graph_eval.specs.declared.outcome.Cause.TheVariants.{Division, System}
+use Rattle.graph_eval.specs.declared.outcome.Singular.{Singular}
 
 -- what is wrong with an expression
 abbrev pub expression_words : ExprKind → List ℕ
@@ -50,3 +53,31 @@ graph_words graph = codes "flow: graph " ++ graph.name ++ codes " node "
 -- the list of a graph whose length is refused
 abbrev pub length_text : Graph → Source → List ℕ
 length_text graph list = graph_words graph ++ source_name graph list ++ codes " length\n"
+
+-- The list that is named where this node of a graph with this output is told: the input, where the output is the input, for
+-- then no node is needed.
+abbrev pub told_list : Source → ℕ → Source
+told_list source.Input node = source.Input
+told_list (source.Node output) node = source.Node node
+
+-- why a node has no value
+abbrev pub cause_word : Cause → List ℕ
+cause_word Division = codes "division"
+cause_word System = codes "system"
+
+-- a node without a value, by its place among these names, and the cause
+abbrev pub singular_node : List (List ℕ) → ℕ → Cause → List ℕ
+singular_node names n cause = slice_index_or names n [] ++ codes " " ++ cause_word cause
+
+-- the line of the learning point q, at which this node has no value
+abbrev pub point_line : List (List ℕ) → ℕ → Singular → List ℕ
+point_line names q singular = codes "point " ++ decimal q ++ codes " " ++ singular_node names singular.node singular.cause ++ codes "\n"
+
+-- the lines of the learning points from q on
+abbrev pub point_lines : List (List ℕ) → ℕ → List Singular → List ℕ
+point_lines names q [] = []
+point_lines names q (singular ∷ later) = point_line names q singular ++ point_lines names (q + 1) later
+
+-- the graph has no learning point, since these nodes have no value there
+abbrev pub no_point_text : Graph → List Singular → List ℕ
+no_point_text graph first = codes "flow: graph " ++ graph.name ++ codes " has no learning point\n" ++ point_lines (node_names graph) 0 first

@@ -1,5 +1,5 @@
 -- The number with which a run ends.
-use Rattle.std.specs.Prelude.{ℕ}
+use Rattle.std.specs.Prelude.{ℕ, ⊤}
 use Rattle.flow_program.specs.declared.status.Status.{Status}
 use Rattle.flow_program.specs.declared.status.Status.TheVariants.{Done, BadWords, BadFile, NotLearned, ReadFault, WriteFault, NoMemory}
 
@@ -11,3 +11,10 @@ code_of NotLearned = 4
 code_of ReadFault = 6
 code_of WriteFault = 7
 code_of NoMemory = 8
+
+-- a run that read its file may end so
+abbrev pub IsFileStatus : Status → Type 0
+IsFileStatus Done = ⊤
+IsFileStatus BadFile = ⊤
+IsFileStatus NotLearned = ⊤
+IsFileStatus status = ⊥

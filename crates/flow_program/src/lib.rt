@@ -2,25 +2,23 @@
 #![tactic(auto)]
 
 mod laws;
-mod learning;
+mod lessons;
 mod printed;
 mod refusals;
 mod reply;
 mod sampling;
 mod status;
+mod task;
 mod top;
 mod words;
 
-pub use laws::one_answer;
+pub use laws::{learned_files_are_answered, one_answer};
 pub use status::Status;
 pub use top::run;
 pub use words::{Command, WordsError, read_words};
 
 /// The greatest length of a graph file, in bytes.
 pub const FILE_LIMIT: usize = 16_777_216;
-
-/// The most residues that a sampling prints, at all points together.
-pub const SAMPLE_LIMIT: usize = 1_048_576;
 
 #[cfg(test)]
 mod tests;

@@ -1,23 +1,26 @@
 //! What a run is to tell, worked out before anything is written.
 
-ghost use Rattle.std.specs.Prelude.{◌≡◌, ◌<◌, ◌≤◌, ℕ, List, IfOk, IsTrue, ◌*◌, ◌<◌, ◌↔◌, length, codes};
-ghost use Rattle.flow_program.specs.Answer.{refusal};
-ghost use Rattle.flow_program.specs.Reply.{answer_of};
-ghost use Rattle.flow_program.specs.Status.{code_of};
-ghost use Rattle.flow_program.specs.Run.{long_answer, words_answer};
-ghost use Rattle.prime_field.specs.Modulus.{value_of};
+ghost use Rattle.std.specs.Prelude.{◌≡◌, ◌≤◌, ◌⊎◌, IfOk, Err, length};
 ghost use Rattle.graph_file.specs.Says.{form};
-ghost use Rattle.flow_program.specs.Refusals.{file_text, length_text};
-ghost use Rattle.flow_program.specs.Sampled.{FileAnswer, JobAnswer};
+ghost use Rattle.graph_eval.specs.Learned.{Fits};
+ghost use Rattle.learn_phase.specs.Answers.{FitsJob};
+ghost use Rattle.flow_program.specs.Answer.{refusal};
+ghost use Rattle.flow_program.specs.Jobs.{JobAnswer, LearnedAnswer, ShortAnswer, long_answer, success};
+ghost use Rattle.flow_program.specs.Refusals.{file_text, length_text, no_point_text};
+ghost use Rattle.flow_program.specs.Reply.{TellsWhy, answer_of};
+ghost use Rattle.flow_program.specs.Run.{ModuliArePrime, Premise, words_answer};
+ghost use Rattle.flow_program.specs.Status.{IsFileStatus, code_of};
+ghost use Rattle.flow_program.specs.Tasks as spec;
 
-use crate::learning::{Lesson, learn};
-use crate::refusals::{push_file_text, push_length_text};
+use crate::FILE_LIMIT;
+use crate::lessons::lessons;
+use crate::refusals::{push_file_text, push_length_text, push_no_point_text, told_list};
 use crate::sampling::sample;
 use crate::status::Status;
-use crate::{FILE_LIMIT, SAMPLE_LIMIT};
-use graph_eval::main_graph;
-use graph_file::{FileError, FileKind, Graph, Job, Need, Source, read_graphs};
-use prime_field::Modulus;
+use crate::task::{Task, need_of};
+use graph_eval::{Learned, Singular};
+use graph_file::{FileError, FileKind, Graph, Job, Source, read_graphs};
+use learn_phase::{LearnError, learn};
 use std::alloc::{AllocError, Global};
 
 /// A status, and all that goes to out and to err with it.
@@ -28,20 +31,30 @@ pub(crate) struct Reply {
     pub(crate) err: Vec<u8>,
 }
 
-/// Nothing on out, and one text on err.
-fn refuse(alloc: Global, status: Status, text: &[u8]) -> Result<Reply, AllocError>
-    ensures { IfOk result (λ reply. answer_of reply ≡ refusal (code_of status) text.now) }
+/// Nothing on out, and this text on err.
+fn refusal_of(alloc: Global, status: Status, err: Vec<u8>) -> Reply
+    ensures answer { answer_of result ≡ refusal (code_of status) err.items }
+    ensures status { result.status ≡ status }
 {
-    Ok(Reply {
+    Reply {
         status,
         out: Vec::new(alloc),
-        err: Vec::from_slice(alloc, text)?,
-    })
+        err,
+    }
+}
+
+/// Nothing on out, and a copy of this text on err.
+fn refuse(alloc: Global, status: Status, text: &[u8]) -> Result<Reply, AllocError>
+    ensures answer { IfOk result (λ reply. answer_of reply ≡ refusal (code_of status) text.now) }
+    ensures status { IfOk result (λ reply. reply.status ≡ status) }
+{
+    Ok(refusal_of(alloc, status, Vec::from_slice(alloc, text)?))
 }
 
 /// The reply to words that go wrong at this place, counted from 1.
 pub(crate) fn reply_to_words(alloc: Global, place: usize) -> Result<Reply, AllocError>
-    ensures { IfOk result (λ reply. answer_of reply ≡ words_answer place) }
+    ensures answer { IfOk result (λ reply. answer_of reply ≡ words_answer place) }
+    ensures status { IfOk result (λ reply. reply.status ≡ Status.BadWords) }
 {
     let text = format!(in alloc; "flow: bad words at {place}\n")?;
     refuse(alloc, Status::BadWords, text.as_bytes())
@@ -49,80 +62,102 @@ pub(crate) fn reply_to_words(alloc: Global, place: usize) -> Result<Reply, Alloc
 
 /// The reply to a file that is longer than the limit.
 pub(crate) fn reply_to_long_file(alloc: Global) -> Result<Reply, AllocError>
-    ensures { IfOk result (λ reply. answer_of reply ≡ long_answer) }
+    ensures answer { IfOk result (λ reply. answer_of reply ≡ long_answer) }
+    ensures status { IfOk result (λ reply. reply.status ≡ Status.BadFile) }
 {
     refuse(alloc, Status::BadFile, b"flow: file too long\n")
 }
 
 /// The reply to a file whose first bad line is this one, counted from 1.
 fn reply_to_bad_line(alloc: Global, line: usize, kind: FileKind) -> Result<Reply, AllocError>
-    ensures { IfOk result (λ reply. answer_of reply ≡ refusal 3 (file_text line kind)) }
+    ensures answer { IfOk result (λ reply. answer_of reply ≡ refusal 3 (file_text line kind)) }
+    ensures status { IfOk result (λ reply. reply.status ≡ Status.BadFile) }
 {
     let mut err = Vec::new(alloc);
     push_file_text(&mut err, line, kind)?;
-    Ok(Reply {
-        status: Status::BadFile,
-        out: Vec::new(alloc),
-        err,
-    })
+    Ok(refusal_of(alloc, Status::BadFile, err))
 }
 
 /// The reply where the length of a graph's list is refused.
 fn reply_to_length(alloc: Global, graph: &Graph, list: Source) -> Result<Reply, AllocError>
-    ensures { IfOk result (λ reply. answer_of reply ≡ refusal 4 (length_text graph.now list)) }
+    ensures answer { IfOk result (λ reply. answer_of reply ≡ refusal 4 (length_text graph.now list)) }
+    ensures status { IfOk result (λ reply. reply.status ≡ Status.NotLearned) }
 {
     let mut err = Vec::new(alloc);
     push_length_text(&mut err, graph, list)?;
-    Ok(Reply {
-        status: Status::NotLearned,
-        out: Vec::new(alloc),
-        err,
-    })
+    Ok(refusal_of(alloc, Status::NotLearned, err))
 }
 
-/// Whether so many outputs at so many points are more residues than a sampling prints.
-fn are_too_many(points: usize, outputs: usize) -> bool
-    ensures { IsTrue result ↔ (SAMPLE_LIMIT < points * outputs) }
+/// The reply where a graph has no learning point, since these nodes have no value there.
+fn reply_to_no_point(alloc: Global, graph: &Graph, first: &[Singular]) -> Result<Reply, AllocError>
+    ensures answer { IfOk result (λ reply. answer_of reply ≡ refusal 4 (no_point_text graph.now first.now)) }
+    ensures status { IfOk result (λ reply. reply.status ≡ Status.NotLearned) }
 {
-    match points.checked_mul(outputs) {
-        Some(residues) => residues > SAMPLE_LIMIT,
-        None => true,
-    }
+    let mut err = Vec::new(alloc);
+    push_no_point_text(&mut err, graph, first)?;
+    Ok(refusal_of(alloc, Status::NotLearned, err))
 }
 
-/// The reply to a job whose points are to be sampled modulo `modulus`.
-fn reply_to_job(alloc: Global, job: &Job, modulus: Modulus) -> Result<Reply, AllocError>
-    ensures { IfOk result (λ reply. JobAnswer (value_of modulus) (form job.now) (answer_of reply)) }
+/// The reply where a job's graphs can't be learned, or want of memory where it is that.
+fn reply_to_unlearned(alloc: Global, job: &Job, why: &LearnError) -> Result<Reply, AllocError>
+    requires { FitsJob job.now.need job.now.graphs job.now.points (Err why.now) }
+    ensures answer { IfOk result (λ reply. TellsWhy job.now.graphs why.now (answer_of reply)) }
+    ensures status { IfOk result (λ reply. reply.status ≡ Status.NotLearned) }
 {
-    let learned = match learn(alloc, job)? {
-        Lesson::Learned(learned) => learned,
-        Lesson::Length { graph, node } => {
-            let graph = &job.graphs.as_slice()[graph];
-            return Ok(reply_to_length(alloc, graph, Source::Node(node))?);
+    let graphs = job.graphs.as_slice();
+    match why {
+        LearnError::NoLearningPoint { graph, first } => {
+            Ok(reply_to_no_point(alloc, &graphs[*graph as usize], first)?)
         }
-    };
-    if are_too_many(job.points.len(), learned.outputs()) {
-        let graph = main_graph(job);
-        return Ok(reply_to_length(alloc, graph, graph.output)?);
+        LearnError::Length { graph, node } => {
+            let graph = &graphs[*graph as usize];
+            let list = told_list(graph.output, *node);
+            Ok(reply_to_length(alloc, graph, list)?)
+        }
+        LearnError::NoMemory => Err(AllocError),
     }
-    Ok(Reply {
-        status: Status::Done,
-        out: sample(alloc, job, &learned, modulus)?,
-        err: Vec::new(alloc),
-    })
 }
 
-/// The reply to a file of these bytes, whose points are to be sampled modulo `modulus`.
-pub(crate) fn reply_to_file(
+/// What is told of graphs that are all learned.
+fn told_learned(
     alloc: Global,
-    bytes: &[u8],
-    modulus: Modulus,
-) -> Result<Reply, AllocError>
-    requires { length bytes.now ≤ FILE_LIMIT }
-    ensures { IfOk result (λ reply. FileAnswer (value_of modulus) bytes.now (answer_of reply)) }
+    job: &Job,
+    learned: &Learned,
+    task: Task,
+) -> Result<Vec<u8>, AllocError>
+    requires { Fits job.now.graphs learned.now }
+    ensures { IfOk result (λ text. ModuliArePrime → LearnedAnswer task (form job.now) learned.now (success text.items)) }
 {
-    match read_graphs(alloc, bytes, Need::Points) {
-        Ok(job) => Ok(reply_to_job(alloc, &job, modulus)?),
+    match task {
+        Task::Sample(modulus) => sample(alloc, job, learned, modulus),
+        Task::Learn => lessons(alloc, job, learned),
+    }
+}
+
+/// The reply to a job with which this is to be done.
+fn reply_to_job(alloc: Global, job: &Job, task: Task) -> Result<Reply, AllocError>
+    requires { job.now.need ≡ spec.need_of task }
+    ensures answer { IfOk result (λ reply. ModuliArePrime → JobAnswer task (form job.now) (answer_of reply)) }
+    ensures status { IfOk result (λ reply. (reply.status ≡ Status.Done) ⊎ (reply.status ≡ Status.NotLearned)) }
+{
+    match learn(alloc, job) {
+        Ok(learned) => Ok(Reply {
+            status: Status::Done,
+            out: told_learned(alloc, job, &learned, task)?,
+            err: Vec::new(alloc),
+        }),
+        Err(why) => Ok(reply_to_unlearned(alloc, job, &why)?),
+    }
+}
+
+/// The reply to a file of these bytes, with which this is to be done.
+pub(crate) fn reply_to_file(alloc: Global, bytes: &[u8], task: Task) -> Result<Reply, AllocError>
+    requires { length bytes.now ≤ FILE_LIMIT }
+    ensures answer { IfOk result (λ reply. Premise (answer_of reply) → ShortAnswer task bytes.now (answer_of reply)) }
+    ensures status { IfOk result (λ reply. IsFileStatus reply.status) }
+{
+    match read_graphs(alloc, bytes, need_of(task)) {
+        Ok(job) => Ok(reply_to_job(alloc, &job, task)?),
         Err(
             FileError {
                 kind: FileKind::NoMemory,

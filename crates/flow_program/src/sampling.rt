@@ -2,40 +2,20 @@
 
 ghost use Rattle.std.specs.Prelude.{◌≡◌, ◌++◌, ℕ, List, Some, OnOk, IfOk, slice_get, length};
 ghost use Rattle.prime_field.specs.Modulus.{value_of};
+ghost use Rattle.prime_field.specs.Residue.{IsPrime};
 ghost use Rattle.graph_eval.specs.Evaluated.{HasInputs, outcome_of};
 ghost use Rattle.graph_eval.specs.GraphValue.{main_number};
-ghost use Rattle.graph_eval.specs.Learned.{Fits, outputs_of};
+ghost use Rattle.graph_eval.specs.Learned.{Fits, outputs_of, sets_of};
 ghost use Rattle.flow_program.specs.Refusals.{node_names};
-ghost use Rattle.flow_program.specs.Sampled.{AddsPoint, SamplesTo, cause_word, outcome_line, singular_words};
+ghost use Rattle.flow_program.specs.Sampled.{AddsPoint, SamplesTo, outcome_line};
 
 use crate::printed::push_residues;
-use graph_eval::{Cause, Learned, Outcome, Singular, Worker, main_graph};
+use crate::refusals::push_singular;
+use graph_eval::{Learned, Outcome, Worker, main_graph};
 use graph_file::{Graph, Job};
 use poly_maps::Point;
 use prime_field::Modulus;
 use std::alloc::{AllocError, Global};
-
-/// The word that a line has for a cause.
-fn word_of(cause: Cause) -> &'static [u8]
-    ensures { result.now ≡ cause_word cause }
-{
-    match cause {
-        Cause::Division => b"division",
-    }
-}
-
-/// Writes the node that has no value and the cause behind the text.
-fn push_singular(text: &mut Vec<u8>, graph: &Graph, singular: Singular) -> Result<(), AllocError>
-    ensures { OnOk result (text.new.items ≡ text.old.items ++ singular_words (node_names graph.now) singular.node singular.cause) }
-{
-    text.extend_from_slice(b"singular ")?;
-    if let Some(node) = graph.nodes.as_slice().get(singular.node as usize) {
-        text.extend_from_slice(node.name.bytes())?;
-    }
-    text.push(b' ')?;
-    text.extend_from_slice(word_of(singular.cause))?;
-    Ok(())
-}
 
 /// Writes the line of one outcome, whose values are `values` where it is defined, behind the text.
 fn push_outcome(
@@ -48,7 +28,10 @@ fn push_outcome(
 {
     match outcome {
         Outcome::Defined => push_residues(text, values)?,
-        Outcome::Singular(singular) => push_singular(text, graph, singular)?,
+        Outcome::Singular(singular) => {
+            text.extend_from_slice(b"singular ")?;
+            push_singular(text, graph, singular)?;
+        }
     }
     text.push(b'\n')?;
     Ok(())
@@ -69,7 +52,7 @@ fn push_point(
     requires fits { Fits job.now.graphs learned.now }
     requires entries { HasInputs (slice_get job.now.graphs (main_number job.now.graphs)) point.now }
     requires room { length values.old ≡ outputs_of learned.now }
-    ensures { OnOk result (AddsPoint (value_of modulus) job.now.graphs point.now text.old.items text.new.items) }
+    ensures { OnOk result (IsPrime (value_of modulus) → AddsPoint (value_of modulus) job.now.graphs (sets_of learned.now) point.now text.old.items text.new.items) }
 {
     let graph = main_graph(job);
     let outcome = worker.eval_point(alloc, job, learned, modulus, point, values)?;
@@ -85,7 +68,7 @@ pub(crate) fn sample(
     modulus: Modulus,
 ) -> Result<Vec<u8>, AllocError>
     requires { Fits job.now.graphs learned.now }
-    ensures { IfOk result (λ text. SamplesTo (value_of modulus) job.now.graphs job.now.points text.items) }
+    ensures { IfOk result (λ text. IsPrime (value_of modulus) → SamplesTo (value_of modulus) job.now.graphs (sets_of learned.now) job.now.points text.items) }
 {
     let mut worker = Worker::new(alloc, job, learned)?;
     let mut values = vec![in alloc; 0; learned.outputs()]?;

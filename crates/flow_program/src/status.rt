@@ -5,13 +5,13 @@ ghost use Rattle.std.specs.Prelude.{◌≡◌, ◌≤◌};
 /// How a run ended, as the process tells it.
 #[derive(Clone, Copy, Debug, PartialEq, Eq)]
 pub enum Status {
-    /// Every point was sampled, whether it has a value or is singular.
+    /// Every point was sampled, whether it has a value or is singular, or the graphs were learned.
     Done,
     /// The words ask for nothing.
     BadWords,
     /// The file is too long, or has a bad line.
     BadFile,
-    /// A length rule fails.
+    /// The graphs can't be learned: a length breaks a rule, or a graph has no learning point.
     NotLearned,
     /// The file can't be read.
     ReadFault,

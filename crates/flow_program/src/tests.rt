@@ -180,6 +180,125 @@ fn what_the_output_does_not_rest_on_is_left_out(rt: HostRuntime) -> Result<(), F
     Ok(())
 }
 
+/// A file of two variables with the list `a` of these expressions and the system `s` on it, which is the output, and two
+/// points.
+fn with_system(
+    alloc: Global,
+    exprs: &str,
+    system: &str,
+    points: [&str; 2],
+) -> Result<String, AllocError> {
+    let [first, second] = points;
+    format!(in alloc;
+        "flow 1\ngraph main\ninput x y\nnode a eval input = {exprs}\nnode s dense a {system}\noutput s\npoint {first}\npoint {second}\n"
+    )
+}
+
+#[test]
+fn systems_are_solved_over_what_was_learned(rt: HostRuntime) -> Result<(), Fail> {
+    let cases = [
+        (
+            "1 ; 1 ; x ; 1 ; -1 ; y",
+            "2 2 want 2 1",
+            ["3 5", "7 3"],
+            "2305843009213693950 4\n2 5\n",
+        ),
+        (
+            "1 ; 2 ; x",
+            "1 2",
+            ["7 0", "0 7"],
+            "2305843009213693949 7 1 0\n2305843009213693949 0 1 0\n",
+        ),
+        ("x ; x ; 1 ; 1", "2 1", ["0 0", "5 0"], "1\n1\n"),
+        (
+            "x ; 1 ; 2*x ; 2",
+            "2 1",
+            ["0 0", "2 0"],
+            "singular s system\n1152921504606846976\n",
+        ),
+    ];
+    for (exprs, system, points, out) in cases {
+        let file = with_system(rt.alloc(), exprs, system, points)?;
+        let told = run_on(rt.alloc(), &["sample", "f"], steady(file.as_bytes()))?;
+        assert!(rt; is_told(&told, 0, out, ""), "{exprs:?}: {told:?}");
+    }
+    Ok(())
+}
+
+#[test]
+fn the_second_modulus_uses_what_was_learned_at_the_first(rt: HostRuntime) -> Result<(), Fail> {
+    let file = with_system(rt.alloc(), "1 ; 2 ; x", "1 2", ["7 0", "0 7"])?;
+    let out = "9223372036854775781 7 1 0\n9223372036854775781 0 1 0\n";
+    for words in [["sample", "f", "--second"], ["sample", "--second", "f"]] {
+        let told = run_on(rt.alloc(), &words, steady(file.as_bytes()))?;
+        assert!(rt; is_told(&told, 0, out, ""), "{words:?}: {told:?}");
+    }
+    Ok(())
+}
+
+#[test]
+fn learning_tells_the_point_the_length_and_the_unknowns(rt: HostRuntime) -> Result<(), Fail> {
+    let two = with_system(
+        rt.alloc(),
+        "1 ; 1 ; x ; 1 ; -1 ; y",
+        "2 2 want 2 1",
+        ["3 5", "5 3"],
+    )?;
+    let one = with_system(rt.alloc(), "1 ; 2 ; x", "1 2", ["7 0", "0 7"])?;
+    let cases = [
+        (
+            two.as_str(),
+            "graph main point 0 length 2\nsolver s independent\n",
+        ),
+        (
+            one.as_str(),
+            "graph main point 0 length 4\nsolver s independent 2\n",
+        ),
+        (QUOTIENTS, "graph main point none length 2\n"),
+    ];
+    for (file, out) in cases {
+        let told = run_on(rt.alloc(), &["learn", "f"], steady(file.as_bytes()))?;
+        assert!(rt; is_told(&told, 0, out, ""), "{file:?}: {told:?}");
+    }
+    Ok(())
+}
+
+/// Two systems, of which the first has an independent unknown, and the chain of their lists.
+const SYSTEMS: &str =
+    "flow 1\ngraph main\ninput x y\nnode a eval input = 1 ; 2 ; x\nnode s dense a 1 2\nnode c eval input = 1 ; y\nnode t dense c 1 1\nnode b chain t s\n";
+
+#[test]
+fn learning_tells_the_needed_solvers_as_they_stand_in_the_file(
+    rt: HostRuntime,
+) -> Result<(), Fail> {
+    let cases = [
+        (
+            "b",
+            "graph main point 0 length 5\nsolver s independent 2\nsolver t independent\n",
+        ),
+        ("t", "graph main point 0 length 1\nsolver t independent\n"),
+        ("input", "graph main point none length 2\n"),
+    ];
+    for (list, out) in cases {
+        let file = format!(in rt.alloc(); "{SYSTEMS}output {list}\n")?;
+        let told = run_on(rt.alloc(), &["learn", "f"], steady(file.as_bytes()))?;
+        assert!(rt; is_told(&told, 0, out, ""), "{list}: {told:?}");
+    }
+    Ok(())
+}
+
+#[test]
+fn a_graph_without_a_learning_point_is_told_with_its_points(rt: HostRuntime) -> Result<(), Fail> {
+    let file = with_system(rt.alloc(), "x-x ; 1", "1 1", ["3 5", "5 3"])?;
+    let err =
+        "flow: graph main has no learning point\npoint 0 s system\npoint 1 s system\npoint 2 s system\npoint 3 s system\npoint 4 s system\npoint 5 s system\npoint 6 s system\npoint 7 s system\n";
+    for command in ["learn", "sample"] {
+        let told = run_on(rt.alloc(), &[command, "f"], steady(file.as_bytes()))?;
+        assert!(rt; is_told(&told, 4, "", err), "{command:?}: {told:?}");
+    }
+    Ok(())
+}
+
 #[test]
 fn the_first_bad_line_is_told_with_its_kind(rt: HostRuntime) -> Result<(), Fail> {
     let cases = [
@@ -247,13 +366,16 @@ fn lists_of_wrong_lengths_are_refused(rt: HostRuntime) -> Result<(), Fail> {
 #[test]
 fn words_that_ask_for_nothing_are_refused_with_their_place(rt: HostRuntime) -> Result<(), Fail> {
     let none: &[&str] = &[];
-    let cases: [(&[&str], &str); 10] = [
+    let cases: [(&[&str], &str); 13] = [
         (none, "1"),
         (&["sample"], "2"),
         (&["sample", "a", "b"], "3"),
         (&["sample", "--workers", "17", "f"], "2"),
         (&["sample", ""], "2"),
-        (&["learn", "f", "--second"], "1"),
+        (&["learn"], "2"),
+        (&["learn", "--second"], "2"),
+        (&["learn", "f", "--second"], "3"),
+        (&["learn", "a", "b"], "3"),
         (&["--help"], "1"),
         (&["sample", "-f"], "2"),
         (&["sample", "-", "-"], "3"),

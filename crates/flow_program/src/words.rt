@@ -2,8 +2,9 @@
 
 ghost use Rattle.std.specs.Prelude.{◌≡◌, ◌<◌, ◌-◌, ℕ, None, false, length, IfOk};
 ghost use Rattle.flow_program.specs.Words.{IsBadAt, asked, is_file, request, texts};
-ghost use Rattle.flow_program.specs.Parsed.{Reads, parsed, parsed_from};
+ghost use Rattle.flow_program.specs.Parsed.{Reads, parsed, parsed_from, parsed_learn};
 
+use crate::task::{Task, modulus_of};
 use std::alloc::{AllocError, Global};
 use thiserror::Error;
 
@@ -12,6 +13,33 @@ use thiserror::Error;
 pub enum Command {
     /// Evaluates the main graph of the file at each of its points, modulo the first modulus, or the second one.
     Sample { file: String, second: bool },
+    /// Learns the graphs of the file.
+    Learn { file: String },
+}
+
+impl Command {
+    ghost use Rattle.flow_program.specs.Words.{file_of, request};
+    ghost use Rattle.flow_program.specs.Tasks.{task_of};
+
+    /// The file that is named.
+    pub(crate) fn file(&self) -> &str
+        ensures { result.now ≡ file_of (request self.now) }
+    {
+        match self {
+            Command::Sample { file, second: _ } => file.as_str(),
+            Command::Learn { file } => file.as_str(),
+        }
+    }
+
+    /// What is to be done with the file.
+    pub(crate) fn task(&self) -> Task
+        ensures { result ≡ task_of (request self.now) }
+    {
+        match self {
+            Command::Sample { file: _, second } => Task::Sample(modulus_of(*second)),
+            Command::Learn { file: _ } => Task::Learn,
+        }
+    }
 }
 
 /// Why words ask for nothing.
@@ -70,18 +98,35 @@ fn parse_sample(alloc: Global, words: &[String]) -> Result<Command, WordsError>
     Ok(Command::Sample { file, second })
 }
 
+/// What the words behind `learn` ask for.
+fn parse_learn(alloc: Global, words: &[String]) -> Result<Command, WordsError>
+    ensures { Reads result (parsed_learn (texts words.now)) }
+{
+    match words {
+        [file, rest @ ..] if is_file_name(file.as_str()) => {
+            if !rest.is_empty() {
+                return Err(WordsError::Bad { word: 3 });
+            }
+            let file = String::from_str(alloc, file.as_str())?;
+            Ok(Command::Learn { file })
+        }
+        _ => Err(WordsError::Bad { word: 2 }),
+    }
+}
+
+/// What the words ask for, or the place of the first that doesn't fit, found by reading them one after another.
 fn parse_words(alloc: Global, words: &[String]) -> Result<Command, WordsError>
     ensures { Reads result (parsed (texts words.now)) }
 {
     match words {
         [word, rest @ ..] if word.as_str() == "sample" => Ok(parse_sample(alloc, rest)?),
+        [word, rest @ ..] if word.as_str() == "learn" => Ok(parse_learn(alloc, rest)?),
         _ => Err(WordsError::Bad { word: 1 }),
     }
 }
 
 /// What the words ask for. `Bad` exactly where the grammar admits them for nothing, with the place,
 /// counted from 1, of the first word up to which no admitted words go.
-#[tactic(auto, using(crate::proofs::WordsLaws::parsed_bad, crate::proofs::WordsLaws::parsed_asks))]
 pub fn read_words(alloc: Global, words: &[String]) -> Result<Command, WordsError>
     ensures asked { IfOk result (λ command. asked (texts words.now) ≡ Some (request command)) }
     ensures bad { (k : ℕ) → result ≡ Err (WordsError.Bad k) → IsBadAt (texts words.now) k }

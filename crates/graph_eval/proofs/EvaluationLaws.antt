@@ -1,5 +1,5 @@
 -- What evaluating a graph node by node says of its value.
-use Rattle.std.proofs.Common.{◌≡◌, All, Result, Ok, Err, ℕ, ◌+◌, ◌<◌, Bool, true, false, MatchBool, List, [], ◌∷◌, ◌++◌, length, map, take, Option, Some, sym, ◌∙◌, ap, subst, arith, inl, inr, length-append, get_or}
+use Rattle.std.proofs.Common.{◌≡◌, All, Result, Ok, Err, ℕ, zero, suc, ◌+◌, ◌<◌, Bool, true, false, MatchBool, List, [], ◌∷◌, ◌++◌, length, map, take, Option, Some, sym, ◌∙◌, ap, subst, arith, inl, inr, length-append, get_or}
 use Rattle.std.specs.Prelude.{slice_get, slice_index_or}
 use Rattle.std.proofs.lemmas.Bool.{cases_eq}
 use Rattle.std.proofs.lemmas.Option.{slice_get_within}
@@ -10,14 +10,17 @@ use Rattle.std.proofs.Math.ListN.{get_or-append}
 use Rattle.graph_file.specs.declared.graph.Graph.{Graph}
 use Rattle.graph_file.specs.declared.graph.Node.{Node}
 use Rattle.graph_file.specs.declared.graph.NodeKind.{NodeKind}
-use Rattle.graph_file.specs.declared.graph.NodeKind.TheVariants.{Eval, Take, Slice, Chain, Sum, Product, Matmul}
+use Rattle.graph_file.specs.declared.graph.NodeKind.TheVariants.{Eval, Take, Slice, Chain, Sum, Product, Matmul, Dense}
 use Rattle.graph_file.specs.declared.graph.Source.{Source}
 use Rattle.graph_eval.specs.declared.outcome.Cause.{Cause}
 use Rattle.graph_eval.specs.GraphValue.{Meaning, Outcome, Value, SingularAt, named, KindGives, KindFails, NodeGives, NodeFails, FirstLists, GraphMeans, GraphValue, MeansAt, meanings, main_number}
 use Rattle.graph_eval.specs.Evaluated.{NodeAnswers, no_graphs}
+use Rattle.graph_eval.specs.Learned.{sets_of}
+use Rattle.graph_eval.specs.declared.learned.GraphLearned.{GraphLearned}
+use Rattle.prime_field.specs.Residue.{IsPrime}
 
 -- What a node answers doesn't rest on other graphs, as long as no kind of node calls one.
-gives_alone : (m : ℕ) (called : ℕ → Meaning) (learned : List ℕ) (list : Source → List ℕ) (kind : NodeKind) (values : List ℕ) → KindGives m no_graphs [] list kind values → KindGives m called learned list kind values
+gives_alone : (m : ℕ) (called : ℕ → Meaning) (learned : List ℕ) (list : Source → List ℕ) (kind : NodeKind) (values : List ℕ) → KindGives m no_graphs learned list kind values → KindGives m called learned list kind values
 gives_alone m called learned list (Eval from exprs) values gives = gives
 gives_alone m called learned list (Take parts) values gives = gives
 gives_alone m called learned list (Slice from first last) values gives = gives
@@ -25,8 +28,9 @@ gives_alone m called learned list (Chain parts) values gives = gives
 gives_alone m called learned list (Sum parts) values gives = gives
 gives_alone m called learned list (Product parts) values gives = gives
 gives_alone m called learned list (Matmul left right rows mid cols) values gives = gives
+gives_alone m called learned list (Dense from rows unknowns want) values gives = gives
 
-fails_alone : (m : ℕ) (called : ℕ → Meaning) (learned : List ℕ) (list : Source → List ℕ) (kind : NodeKind) (cause : Cause) → KindFails m no_graphs [] list kind cause → KindFails m called learned list kind cause
+pub fails_alone : (m : ℕ) (called : ℕ → Meaning) (learned : List ℕ) (list : Source → List ℕ) (kind : NodeKind) (cause : Cause) → KindFails m no_graphs learned list kind cause → KindFails m called learned list kind cause
 fails_alone m called learned list (Eval from exprs) cause fails = fails
 fails_alone m called learned list (Take parts) cause fails = fails
 fails_alone m called learned list (Slice from first last) cause fails = fails
@@ -34,12 +38,13 @@ fails_alone m called learned list (Chain parts) cause fails = fails
 fails_alone m called learned list (Sum parts) cause fails = fails
 fails_alone m called learned list (Product parts) cause fails = fails
 fails_alone m called learned list (Matmul left right rows mid cols) cause fails = fails
+fails_alone m called learned list (Dense from rows unknowns want) cause fails = fails
 
-needed_alone : (m : ℕ) (called : ℕ → Meaning) (learned : List ℕ) (list : Source → List ℕ) (kind : NodeKind) (values : List ℕ) (needed : Bool) → MatchBool needed (KindGives m no_graphs [] list kind values) (values ≡ []) → MatchBool needed (KindGives m called learned list kind values) (values ≡ [])
+needed_alone : (m : ℕ) (called : ℕ → Meaning) (learned : List ℕ) (list : Source → List ℕ) (kind : NodeKind) (values : List ℕ) (needed : Bool) → MatchBool needed (KindGives m no_graphs learned list kind values) (values ≡ []) → MatchBool needed (KindGives m called learned list kind values) (values ≡ [])
 needed_alone m called learned list kind values true gives = gives_alone m called learned list kind values gives
 needed_alone m called learned list kind values false none = none
 
-pub alone : (m : ℕ) (called : ℕ → Meaning) (learned : List ℕ) (list : Source → List ℕ) (node : Node) (answer : Result (List ℕ) Cause) → NodeAnswers m no_graphs [] list node answer → NodeAnswers m called learned list node answer
+pub alone : (m : ℕ) (called : ℕ → Meaning) (learned : List ℕ) (list : Source → List ℕ) (node : Node) (answer : Result (List ℕ) Cause) → NodeAnswers m no_graphs learned list node answer → NodeAnswers m called learned list node answer
 alone m called learned list node (Err cause) fails = (fails.0, fails_alone m called learned list node.kind cause fails.1)
 alone m called learned list node (Ok values) gives = needed_alone m called learned list node.kind values node.needed gives
 
@@ -69,21 +74,39 @@ FirstLists-more m called learned nodes inputs lists node values first below is g
   ];
 }
 
--- the first so many nodes have given these lists of residues, which have the learned lengths
-pub record ListsSoFar (m : ℕ) (nodes : List Node) (inputs : List ℕ) (lengths : List ℕ) (lists : List (List ℕ)) (count : ℕ) : Type 0 where
-  pub first : FirstLists m no_graphs [] nodes inputs lists
+-- the sets of later nodes don't count
+pub FirstLists-sets : (m : ℕ) (called : ℕ → Meaning) (sets others : List (List ℕ)) (nodes : List Node) (inputs : List ℕ) (lists : List (List ℕ)) → ((n : ℕ) → n < length lists → slice_index_or sets n [] ≡ slice_index_or others n []) → FirstLists m called sets nodes inputs lists → FirstLists m called others nodes inputs lists
+FirstLists-sets m called sets others nodes inputs lists same first = record {
+  within = first.within;
+  each = λ n node below is. subst (λ (set : List ℕ). NodeGives m called set (named inputs (take n lists)) node (slice_index_or lists n [])) (same n below) (first.each n node below is);
+}
+
+-- the first so many nodes have given these lists of residues, which have the learned lengths; where m is prime, the lists
+-- are their values
+pub record ListsSoFar (m : ℕ) (nodes : List Node) (inputs : List ℕ) (sets : List (List ℕ)) (lengths : List ℕ) (lists : List (List ℕ)) (count : ℕ) : Type 0 where
+  pub first : IsPrime m → FirstLists m no_graphs sets nodes inputs lists
   pub many : length lists ≡ count
   pub residues : All (λ list. All (λ x. x < m) list) lists
   pub rooms : map (λ list. length list) lists ≡ take count lengths
 
+-- the sets and lengths of later nodes don't count
+pub ListsSoFar-longer : (m : ℕ) (nodes : List Node) (inputs : List ℕ) (sets others : List (List ℕ)) (lengths longer : List ℕ) (lists : List (List ℕ)) (count : ℕ) → ((n : ℕ) → n < count → slice_index_or sets n [] ≡ slice_index_or others n []) → take count lengths ≡ take count longer
+    → ListsSoFar m nodes inputs sets lengths lists count → ListsSoFar m nodes inputs others longer lists count
+ListsSoFar-longer m nodes inputs sets others lengths longer lists count same lengths_same so_far = record {
+  first = λ prime. FirstLists-sets m no_graphs sets others nodes inputs lists (λ n below. same n (omega (arith, so_far.many))) (so_far.first prime);
+  many = so_far.many;
+  residues = so_far.residues;
+  rooms = so_far.rooms ∙ lengths_same;
+}
+
 -- what a graph means doesn't rest on other graphs either
-FirstLists-alone : (m : ℕ) (called : ℕ → Meaning) (learned : List (List ℕ)) (nodes : List Node) (inputs : List ℕ) (lists : List (List ℕ)) → FirstLists m no_graphs [] nodes inputs lists → FirstLists m called learned nodes inputs lists
+pub FirstLists-alone : (m : ℕ) (called : ℕ → Meaning) (learned : List (List ℕ)) (nodes : List Node) (inputs : List ℕ) (lists : List (List ℕ)) → FirstLists m no_graphs learned nodes inputs lists → FirstLists m called learned nodes inputs lists
 FirstLists-alone m called learned nodes inputs lists first = record {
   within = first.within;
   each = λ n node below is. alone m called (slice_index_or learned n []) (named inputs (take n lists)) node (Ok (slice_index_or lists n [])) (first.each n node below is);
 }
 
-pub means_alone : (m : ℕ) (called : ℕ → Meaning) (learned : List (List ℕ)) (graph : Graph) (inputs : List ℕ) (outcome : Outcome) → GraphMeans m no_graphs [] graph inputs outcome → GraphMeans m called learned graph inputs outcome
+pub means_alone : (m : ℕ) (called : ℕ → Meaning) (learned : List (List ℕ)) (graph : Graph) (inputs : List ℕ) (outcome : Outcome) → GraphMeans m no_graphs learned graph inputs outcome → GraphMeans m called learned graph inputs outcome
 means_alone m called learned graph inputs (Value values) is = record {
   lists = is.lists;
   first = FirstLists-alone m called learned graph.nodes inputs is.lists is.first;
@@ -100,32 +123,44 @@ means_alone m called learned graph inputs (SingularAt n cause) is = record {
 }
 
 -- a needed node without a value makes the graph singular
-pub stops : (m : ℕ) (graph : Graph) (inputs lengths : List ℕ) (lists : List (List ℕ)) (place : ℕ) (node : Node) (cause : Cause) → ListsSoFar m graph.nodes inputs lengths lists place → slice_get graph.nodes place ≡ Some node
-    → NodeFails m no_graphs [] (named inputs lists) node cause → GraphMeans m no_graphs [] graph inputs (SingularAt place cause)
-stops m graph inputs lengths lists place node cause so_far is fails = record {
+pub stops : (m : ℕ) (graph : Graph) (inputs : List ℕ) (sets : List (List ℕ)) (lengths : List ℕ) (lists : List (List ℕ)) (place : ℕ) (set : List ℕ) (node : Node) (cause : Cause) → ListsSoFar m graph.nodes inputs sets lengths lists place → slice_get graph.nodes place ≡ Some node
+    → slice_index_or sets place [] ≡ set → (IsPrime m → NodeFails m no_graphs set (named inputs lists) node cause) → IsPrime m → GraphMeans m no_graphs sets graph inputs (SingularAt place cause)
+stops m graph inputs sets lengths lists place set node cause so_far is set_is fails prime = record {
   lists = lists;
-  first = so_far.first;
+  first = so_far.first prime;
   before = so_far.many;
   node = node;
   is_node = is;
-  fails = fails;
+  fails = subst (λ (s : List ℕ). NodeFails m no_graphs s (named inputs lists) node cause) (sym set_is) (fails prime);
 }
 
 -- a node's list joins those before it
-pub goes_on : (m : ℕ) (nodes : List Node) (inputs lengths : List ℕ) (lists more : List (List ℕ)) (place own : ℕ) (node : Node) (values : List ℕ) → ListsSoFar m nodes inputs lengths lists place → slice_get nodes place ≡ Some node
-    → NodeGives m no_graphs [] (named inputs lists) node values → All (λ x. x < m) values → length values ≡ own → place < length lengths → own ≡ get_or lengths place 0 → more ≡ lists ++ values ∷ [] → ListsSoFar m nodes inputs lengths more (place + 1)
-goes_on m nodes inputs lengths lists more place own node values so_far is list low long below own_is joined =
+pub goes_on : (m : ℕ) (nodes : List Node) (inputs : List ℕ) (sets : List (List ℕ)) (lengths : List ℕ) (lists more : List (List ℕ)) (place own : ℕ) (set : List ℕ) (node : Node) (values : List ℕ) → ListsSoFar m nodes inputs sets lengths lists place → slice_get nodes place ≡ Some node
+    → slice_index_or sets place [] ≡ set → (IsPrime m → NodeGives m no_graphs set (named inputs lists) node values) → All (λ x. x < m) values → length values ≡ own → place < length lengths → own ≡ get_or lengths place 0 → more ≡ lists ++ values ∷ [] → ListsSoFar m nodes inputs sets lengths more (place + 1)
+goes_on m nodes inputs sets lengths lists more place own set node values so_far is set_is list low long below own_is joined =
     let at_length : slice_get nodes (length lists) ≡ Some node = ap (slice_get nodes) so_far.many ∙ is in
     let within : length lists < length nodes = slice_get_within nodes (length lists) node at_length in
+    let set_here : set ≡ slice_index_or sets (length lists) [] = sym set_is ∙ ap (λ n. slice_index_or sets n []) (sym so_far.many) in
     record {
-      first = subst (λ (ls : List (List ℕ)). FirstLists m no_graphs [] nodes inputs ls) (sym joined) (FirstLists-more m no_graphs [] nodes inputs lists node values so_far.first within at_length list);
+      first = λ prime. subst (λ (ls : List (List ℕ)). FirstLists m no_graphs sets nodes inputs ls) (sym joined) (FirstLists-more m no_graphs sets nodes inputs lists node values (so_far.first prime) within at_length
+          (subst (λ (s : List ℕ). NodeGives m no_graphs s (named inputs lists) node values) set_here (list prime)));
       many = ap length joined ∙ length-append lists (values ∷ []) ∙ ap (λ n. n + 1) so_far.many;
       residues = All-same (λ xs. All (λ x. x < m) xs) _ _ joined (All-push (λ xs. All (λ x. x < m) xs) lists values so_far.residues low);
       rooms = ap (map (λ (xs : List ℕ). length xs)) joined ∙ map-append (λ (xs : List ℕ). length xs) lists (values ∷ []) ∙ ap (λ ns. ns ++ length values ∷ []) so_far.rooms
           ∙ ap (λ n. take place lengths ++ n ∷ []) (long ∙ own_is) ∙ sym (take_more lengths place 0 below);
     }
 
+-- the sets of a graph among those of all
+pub sets_at : (learned : List GraphLearned) (number : ℕ) (entry : GraphLearned) → slice_get learned number ≡ Some entry → slice_index_or (sets_of learned) number [] ≡ entry.sets
+sets_at [] number entry is = absurd (omega (arith, slice_get_within [] number entry is))
+sets_at (first ∷ learned) zero entry is = let same : first ≡ entry = cc in ap (λ (g : GraphLearned). g.sets) same
+sets_at (first ∷ learned) (suc number) entry is = sets_at learned number entry is
+
 -- what the main graph means alone is its value
-pub main_value : (m : ℕ) (graphs : List Graph) (graph : Graph) (inputs : List ℕ) (outcome : Outcome) → slice_get graphs (main_number graphs) ≡ Some graph → GraphMeans m no_graphs [] graph inputs outcome → GraphValue m graphs [] (main_number graphs) inputs outcome
-main_value m graphs graph inputs outcome is means =
-    subst (λ (o : Option Graph). MeansAt m (meanings m graphs [] (main_number graphs)) [] o inputs outcome) (sym is) (means_alone m (meanings m graphs [] (main_number graphs)) [] graph inputs outcome means)
+pub main_value : (m : ℕ) (graphs : List Graph) (learned : List GraphLearned) (graph : Graph) (entry : GraphLearned) (inputs : List ℕ) (outcome : Outcome) → slice_get graphs (main_number graphs) ≡ Some graph → slice_get learned (main_number graphs) ≡ Some entry
+    → GraphMeans m no_graphs entry.sets graph inputs outcome → GraphValue m graphs (sets_of learned) (main_number graphs) inputs outcome
+main_value m graphs learned graph entry inputs outcome is entry_is means =
+    let number = main_number graphs in
+    subst (λ (o : Option Graph). MeansAt m (meanings m graphs (sets_of learned) number) (slice_index_or (sets_of learned) number []) o inputs outcome) (sym is)
+    (subst (λ (sets : List (List ℕ)). GraphMeans m (meanings m graphs (sets_of learned) number) sets graph inputs outcome) (sym (sets_at learned number entry entry_is))
+    (means_alone m (meanings m graphs (sets_of learned) number) entry.sets graph inputs outcome means))

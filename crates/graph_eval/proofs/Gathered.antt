@@ -1,7 +1,7 @@
 -- Answers that are written one after the other, as long as each is there.
 use Rattle.std.proofs.Common.{◌≡◌, ◌<◌, ◌+◌, ℕ, refl, sym, ap, ◌∙◌, List, [], ◌∷◌, ◌++◌, length, map, drop, get_or, Option, Some, None, append_assoc, append-nil, add-one, option_map}
 use Rattle.std.proofs.Math.Seq.{drop-cons}
-use Rattle.graph_eval.specs.GraphValue.{all_of}
+use Rattle.graph_file.specs.Line.{all_of}
 
 -- the answers so far with those behind them, where all of these are there
 abbrev pub onto : {A : Type 0} → List A → Option (List A) → Option (List A)

@@ -1,6 +1,6 @@
 -- The lengths of a graph's lists, one node after the other.
 use Rattle.std.proofs.Common.{◌≡◌, ℕ, ◌+◌, ◌<◌, ◌≤◌, List, [], ◌∷◌, ◌++◌, All, length, take, get_or, sum, Option, Some, None, refl, sym, ◌∙◌, ap, subst, length-append, arith, inl, inr}
-use Rattle.std.specs.Prelude.{slice_get, IfSome}
+use Rattle.std.specs.Prelude.{slice_get, slice_index_or, IfSome}
 use Rattle.graph_eval.specs.declared.learned.GraphLearned.{GraphLearned}
 use Rattle.std.proofs.lemmas.Bool.{cases_eq}
 use Rattle.std.proofs.lemmas.Option.{slice_get_within}
@@ -11,74 +11,111 @@ use Rattle.std.proofs.lemmas.List.Elements.{All-nil, All-push, All-same}
 use Rattle.std.proofs.lemmas.List.Sums.{sum_by_push}
 use Rattle.graph_file.specs.declared.graph.Graph.{Graph}
 use Rattle.graph_file.specs.declared.graph.Node.{Node}
-use Rattle.graph_eval.specs.Learned.{FirstLengths, FitsGraph, FailsLength, named_length, node_length}
+use Rattle.graph_eval.specs.Learned.{AreEmpty, FirstLengths, FitsGraph, FailsLength, IsSetFor, named_length, node_length}
+use Rattle.graph_eval.proofs.ShapeLaws.{empty_set_for}
 
 -- no length yet
-pub FirstLengths-none : (graph : Graph) → FirstLengths graph []
-FirstLengths-none graph = record { within = omega arith; each = λ n node below is. absurd (omega arith) }
+pub FirstLengths-none : (graph : Graph) (sets : List (List ℕ)) → FirstLengths graph sets []
+FirstLengths-none graph sets = record { within = omega arith; each = λ n node below is. absurd (omega arith) }
 
 -- one more length: that of the next node behind those before it
-FirstLengths-more : (graph : Graph) (lengths : List ℕ) (node : Node) (own : ℕ) → FirstLengths graph lengths → length lengths < length graph.nodes → slice_get graph.nodes (length lengths) ≡ Some node
-    → node_length (length graph.inputs) lengths node ≡ Some own → FirstLengths graph (lengths ++ own ∷ [])
-FirstLengths-more graph lengths node own first below is has = record {
+FirstLengths-more : (graph : Graph) (sets : List (List ℕ)) (lengths : List ℕ) (node : Node) (own : ℕ) → FirstLengths graph sets lengths → length lengths < length graph.nodes → slice_get graph.nodes (length lengths) ≡ Some node
+    → node_length (length graph.inputs) lengths (slice_index_or sets (length lengths) []) node ≡ Some own → FirstLengths graph sets (lengths ++ own ∷ [])
+FirstLengths-more graph sets lengths node own first below is has = record {
   within = omega (arith, length-append lengths (own ∷ []));
   each = λ n other at other_is. elim (cases_eq n (length lengths)) [
     | inl e ↦
         let same_node : Some other ≡ Some node = sym other_is ∙ ap (slice_get graph.nodes) e ∙ is in
         let same : other ≡ node = cc in
-        ap (λ k. node_length (length graph.inputs) (take k (lengths ++ own ∷ [])) other) e
-        ∙ ap (λ before. node_length (length graph.inputs) before other) (take-append_seam lengths (own ∷ []))
-        ∙ ap (node_length (length graph.inputs) lengths) same
+        ap (λ k. node_length (length graph.inputs) (take k (lengths ++ own ∷ [])) (slice_index_or sets k []) other) e
+        ∙ ap (λ before. node_length (length graph.inputs) before (slice_index_or sets (length lengths) []) other) (take-append_seam lengths (own ∷ []))
+        ∙ ap (node_length (length graph.inputs) lengths (slice_index_or sets (length lengths) [])) same
         ∙ has
         ∙ ap (λ v. Some v) (sym (get_or-append_seam lengths own [] 0))
         ∙ ap (λ k. Some (get_or (lengths ++ own ∷ []) k 0)) (sym e)
     | inr ne ↦
         let earlier : n < length lengths = omega (arith, length-append lengths (own ∷ [])) in
-        ap (λ before. node_length (length graph.inputs) before other) (take-append-le n lengths (own ∷ []) (omega arith))
+        ap (λ before. node_length (length graph.inputs) before (slice_index_or sets n []) other) (take-append-le n lengths (own ∷ []) (omega arith))
         ∙ first.each n other earlier other_is
         ∙ ap (λ v. Some v) (sym (get_or-append lengths (own ∷ []) 0 n earlier))
   ];
 }
 
+-- the sets of later nodes don't count
+pub FirstLengths-sets : (graph : Graph) (sets others : List (List ℕ)) (lengths : List ℕ) → ((n : ℕ) → n < length lengths → slice_index_or sets n [] ≡ slice_index_or others n []) → FirstLengths graph sets lengths → FirstLengths graph others lengths
+FirstLengths-sets graph sets others lengths same first = record {
+  within = first.within;
+  each = λ n node below is. ap (λ set. node_length (length graph.inputs) (take n lengths) set node) (sym (same n below)) ∙ first.each n node below is;
+}
+
 -- the first so many nodes have these lengths, which are within the limits
-pub record LengthsSoFar (graph : Graph) (lengths : List ℕ) (count total : ℕ) : Type 0 where
-  pub first : FirstLengths graph lengths
+pub record LengthsSoFar (graph : Graph) (sets : List (List ℕ)) (lengths : List ℕ) (count total : ℕ) : Type 0 where
+  pub first : FirstLengths graph sets lengths
   pub many : length lengths ≡ count
   pub total_is : total ≡ sum lengths
   pub bound : total ≤ 2097152
   pub within : All (λ n. n ≤ 262144) lengths
 
-pub LengthsSoFar-none : (graph : Graph) → LengthsSoFar graph [] 0 0
-LengthsSoFar-none graph = record { first = FirstLengths-none graph; many = refl; total_is = refl; bound = omega arith; within = All-nil (λ n. n ≤ 262144) }
+pub LengthsSoFar-none : (graph : Graph) (sets : List (List ℕ)) → LengthsSoFar graph sets [] 0 0
+LengthsSoFar-none graph sets = record { first = FirstLengths-none graph sets; many = refl; total_is = refl; bound = omega arith; within = All-nil (λ n. n ≤ 262144) }
+
+pub LengthsSoFar-sets : (graph : Graph) (sets others : List (List ℕ)) (lengths : List ℕ) (count total : ℕ) → ((n : ℕ) → n < count → slice_index_or sets n [] ≡ slice_index_or others n []) → LengthsSoFar graph sets lengths count total → LengthsSoFar graph others lengths count total
+LengthsSoFar-sets graph sets others lengths count total same so_far = record {
+  first = FirstLengths-sets graph sets others lengths (λ n below. same n (omega (arith, so_far.many))) so_far.first;
+  many = so_far.many;
+  total_is = so_far.total_is;
+  bound = so_far.bound;
+  within = so_far.within;
+}
 
 -- what the rule answered, on the graph's inputs and the lengths so far
-module _ (graph : Graph) (lengths : List ℕ) (place total inputs : ℕ) (earlier : List ℕ) (node : Node) (answer : Option ℕ) (so_far : LengthsSoFar graph lengths place total) (is : slice_get graph.nodes place ≡ Some node)
-    (inputs_is : inputs ≡ length graph.inputs) (earlier_is : earlier ≡ lengths) (answer_is : answer ≡ node_length inputs earlier node) where
-  answered : node_length (length graph.inputs) lengths node ≡ answer
-  answered = ap (λ n. node_length n lengths node) (sym inputs_is) ∙ ap (λ ls. node_length inputs ls node) (sym earlier_is) ∙ sym answer_is
+module _ (graph : Graph) (sets : List (List ℕ)) (lengths : List ℕ) (place total inputs : ℕ) (earlier set : List ℕ) (node : Node) (answer : Option ℕ) (so_far : LengthsSoFar graph sets lengths place total) (is : slice_get graph.nodes place ≡ Some node)
+    (inputs_is : inputs ≡ length graph.inputs) (earlier_is : earlier ≡ lengths) (set_is : slice_index_or sets place [] ≡ set) (answer_is : answer ≡ node_length inputs earlier set node) where
+  pub answered : node_length (length graph.inputs) lengths set node ≡ answer
+  answered = ap (λ n. node_length n lengths set node) (sym inputs_is) ∙ ap (λ ls. node_length inputs ls set node) (sym earlier_is) ∙ sym answer_is
 
   -- one length more
-  pub one_more : (own : ℕ) (more : List ℕ) → answer ≡ Some own → IfSome answer (λ n. n ≤ 262144) → IfSome answer (λ n. total + n ≤ 2097152) → more ≡ lengths ++ own ∷ [] → LengthsSoFar graph more (place + 1) (total + own)
+  pub one_more : (own : ℕ) (more : List ℕ) → answer ≡ Some own → IfSome answer (λ n. n ≤ 262144) → IfSome answer (λ n. total + n ≤ 2097152) → more ≡ lengths ++ own ∷ [] → LengthsSoFar graph sets more (place + 1) (total + own)
   one_more own more some small bound joined =
       let at_length : slice_get graph.nodes (length lengths) ≡ Some node = ap (slice_get graph.nodes) so_far.many ∙ is in
       let within : length lengths < length graph.nodes = slice_get_within graph.nodes (length lengths) node at_length in
+      let has : node_length (length graph.inputs) lengths (slice_index_or sets (length lengths) []) node ≡ Some own =
+      ap (λ n. node_length (length graph.inputs) lengths (slice_index_or sets n []) node) so_far.many ∙ ap (λ s. node_length (length graph.inputs) lengths s node) set_is ∙ answered ∙ some in
       record {
-        first = subst (FirstLengths graph) (sym joined) (FirstLengths-more graph lengths node own so_far.first within at_length (answered ∙ some));
+        first = subst (FirstLengths graph sets) (sym joined) (FirstLengths-more graph sets lengths node own so_far.first within at_length has);
         many = ap length joined ∙ length-append lengths (own ∷ []) ∙ ap (λ n. n + 1) so_far.many;
         total_is = ap (λ n. n + own) so_far.total_is ∙ sym (sum_by_push (λ n. n) lengths own) ∙ ap sum (sym joined);
         bound = subst (λ (o : Option ℕ). IfSome o (λ n. total + n ≤ 2097152)) some bound;
         within = All-same (λ n. n ≤ 262144) _ _ joined (All-push (λ n. n ≤ 262144) lengths own so_far.within (subst (λ (o : Option ℕ). IfSome o (λ n. n ≤ 262144)) some small));
       }
 
-  -- a node whose rule fails
-  pub fails_here : answer ≡ None → FailsLength graph place
-  fails_here none = record { lengths = lengths; first = so_far.first; before = so_far.many; node = node; is_node = is; fails = answered ∙ none }
+-- where nothing is learned for any node, a node whose rule fails
+pub fails_here : (graph : Graph) (lengths : List ℕ) (place total inputs : ℕ) (earlier : List ℕ) (node : Node) (answer : Option ℕ) → LengthsSoFar graph [] lengths place total → slice_get graph.nodes place ≡ Some node
+    → inputs ≡ length graph.inputs → earlier ≡ lengths → answer ≡ node_length inputs earlier [] node → answer ≡ None → FailsLength graph place
+fails_here graph lengths place total inputs earlier node answer so_far is inputs_is earlier_is answer_is none = record {
+  lengths = lengths;
+  first = so_far.first;
+  before = so_far.many;
+  node = node;
+  is_node = is;
+  fails = answered graph [] lengths place total inputs earlier [] node answer so_far is inputs_is earlier_is refl answer_is ∙ none;
+}
 
--- with every node's length, and the output's
-pub fits_graph : (graph : Graph) (lengths : List ℕ) (place total inputs output : ℕ) (learned : GraphLearned) → LengthsSoFar graph lengths place total → place ≡ length graph.nodes → inputs ≡ length graph.inputs
-    → learned.lengths ≡ lengths → learned.output ≡ named_length inputs lengths graph.output → FitsGraph graph learned
-fits_graph graph lengths place total inputs output learned so_far all inputs_is lengths_is output_is = record {
-  first = subst (FirstLengths graph) (sym lengths_is) so_far.first;
+-- with every node's set and length, and the output's length
+pub fits_graph : (graph : Graph) (sets : List (List ℕ)) (lengths : List ℕ) (place total inputs : ℕ) (learned : GraphLearned) → LengthsSoFar graph sets lengths place total → place ≡ length graph.nodes → inputs ≡ length graph.inputs
+    → length sets ≡ place → ((n : ℕ) (node : Node) → n < place → slice_get graph.nodes n ≡ Some node → IsSetFor node (slice_index_or sets n []))
+    → learned.sets ≡ sets → learned.lengths ≡ lengths → learned.output ≡ named_length inputs lengths graph.output → FitsGraph graph learned
+fits_graph graph sets lengths place total inputs learned so_far all inputs_is many each sets_is lengths_is output_is = record {
+  many = ap length sets_is ∙ many ∙ all;
+  sets = λ n node is. subst (λ (ss : List (List ℕ)). IsSetFor node (slice_index_or ss n [])) (sym sets_is) (each n node (omega (arith, all, slice_get_within graph.nodes n node is)) is);
+  first = subst (λ (ss : List (List ℕ)). FirstLengths graph ss learned.lengths) (sym sets_is) (subst (FirstLengths graph sets) (sym lengths_is) so_far.first);
   all = ap length lengths_is ∙ so_far.many ∙ all;
   output = output_is ∙ ap (λ n. named_length n lengths graph.output) inputs_is ∙ ap (λ ls. named_length (length graph.inputs) ls graph.output) (sym lengths_is);
 }
+
+-- the same where nothing is learned for any node
+pub fits_plain : (graph : Graph) (lengths : List ℕ) (place total inputs count : ℕ) (learned : GraphLearned) → LengthsSoFar graph [] lengths place total → place ≡ length graph.nodes → inputs ≡ length graph.inputs → count ≡ length graph.nodes
+    → AreEmpty count learned.sets → learned.lengths ≡ lengths → learned.output ≡ named_length inputs lengths graph.output → FitsGraph graph learned
+fits_plain graph lengths place total inputs count learned so_far all inputs_is count_is empty =
+    fits_graph graph learned.sets lengths place total inputs learned (LengthsSoFar-sets graph [] learned.sets lengths place total (λ n below. sym (empty.each n)) so_far) all inputs_is (empty.many ∙ count_is ∙ sym all)
+    (λ n node below is. subst (IsSetFor node) (sym (empty.each n)) (empty_set_for node)) refl

@@ -1,10 +1,13 @@
 pub mod EvaluationLaws
 pub mod Fitting
+mod FreshLaws
 mod Gathered
 pub mod LengthLaws
+pub mod OneFresh
 pub mod OneLength
 pub mod OneValue
-mod Places
+pub mod Places
 mod Room
 mod ShapeLaws
+pub mod SystemLaws
 mod Writing

@@ -7,23 +7,26 @@ use Rattle.std.proofs.Math.Seq.{take-suc, take-length}
 use Rattle.graph_file.specs.declared.graph.Graph.{Graph}
 use Rattle.graph_file.specs.declared.graph.Node.{Node}
 use Rattle.graph_file.specs.declared.graph.NodeKind.{NodeKind}
-use Rattle.graph_file.specs.declared.graph.NodeKind.TheVariants.{Eval, Take, Slice, Chain, Sum, Product, Matmul}
+use Rattle.graph_file.specs.declared.graph.NodeKind.TheVariants.{Eval, Take, Slice, Chain, Sum, Product, Matmul, Dense}
 use Rattle.graph_file.specs.declared.graph.Source.{Source}
 use Rattle.graph_eval.specs.declared.outcome.Cause.{Cause}
+use Rattle.graph_eval.specs.Systems.{rows_in}
 use Rattle.graph_eval.proofs.Places.{stands}
+use Rattle.graph_eval.proofs.SystemLaws.{solved_once}
 use Rattle.graph_eval.specs.GraphValue.{Meaning, Outcome, Value, SingularAt, named, KindGives, KindFails, NodeGives, NodeFails, FirstLists, IsValue, IsSingular, GraphMeans, GraphValue, MeansAt, meanings}
 
 -- a node of one kind gives one list, or fails for one cause, and never both
-kind_gives : (m : ℕ) (called : ℕ → Meaning) (learned : List ℕ) (list : Source → List ℕ) (kind : NodeKind) (xs ys : List ℕ) → KindGives m called learned list kind xs → KindGives m called learned list kind ys → xs ≡ ys
-kind_gives m called learned list (Eval from exprs) xs ys first second = let both : Some xs ≡ Some ys = sym first ∙ second in cc
-kind_gives m called learned list (Take parts) xs ys first second = first ∙ sym second
-kind_gives m called learned list (Slice from first_place last) xs ys first second = first ∙ sym second
-kind_gives m called learned list (Chain parts) xs ys first second = first ∙ sym second
-kind_gives m called learned list (Sum parts) xs ys first second = first ∙ sym second
-kind_gives m called learned list (Product parts) xs ys first second = first ∙ sym second
-kind_gives m called learned list (Matmul left right rows mid cols) xs ys first second = first ∙ sym second
+kind_gives : (m : ℕ) (called : ℕ → Meaning) (learned : List ℕ) (list : Source → List ℕ) (kind : NodeKind) (xs ys : List ℕ) → 1 < m → KindGives m called learned list kind xs → KindGives m called learned list kind ys → xs ≡ ys
+kind_gives m called learned list (Eval from exprs) xs ys large first second = let both : Some xs ≡ Some ys = sym first ∙ second in cc
+kind_gives m called learned list (Take parts) xs ys large first second = first ∙ sym second
+kind_gives m called learned list (Slice from first_place last) xs ys large first second = first ∙ sym second
+kind_gives m called learned list (Chain parts) xs ys large first second = first ∙ sym second
+kind_gives m called learned list (Sum parts) xs ys large first second = first ∙ sym second
+kind_gives m called learned list (Product parts) xs ys large first second = first ∙ sym second
+kind_gives m called learned list (Matmul left right rows mid cols) xs ys large first second = first ∙ sym second
+kind_gives m called learned list (Dense from rows unknowns want) xs ys large first second = solved_once m unknowns (rows_in rows unknowns (list from)) learned want xs ys large first second
 
-kind_fails : (m : ℕ) (called : ℕ → Meaning) (learned : List ℕ) (list : Source → List ℕ) (kind : NodeKind) (a b : Cause) → KindFails m called learned list kind a → KindFails m called learned list kind b → a ≡ b
+pub kind_fails : (m : ℕ) (called : ℕ → Meaning) (learned : List ℕ) (list : Source → List ℕ) (kind : NodeKind) (a b : Cause) → KindFails m called learned list kind a → KindFails m called learned list kind b → a ≡ b
 kind_fails m called learned list (Eval from exprs) a b first second = first.1 ∙ sym second.1
 kind_fails m called learned list (Take parts) a b first second = absurd first
 kind_fails m called learned list (Slice from first_place last) a b first second = absurd first
@@ -31,6 +34,7 @@ kind_fails m called learned list (Chain parts) a b first second = absurd first
 kind_fails m called learned list (Sum parts) a b first second = absurd first
 kind_fails m called learned list (Product parts) a b first second = absurd first
 kind_fails m called learned list (Matmul left right rows mid cols) a b first second = absurd first
+kind_fails m called learned list (Dense from rows unknowns want) a b first second = first.1 ∙ sym second.1
 
 kind_clash : (m : ℕ) (called : ℕ → Meaning) (learned : List ℕ) (list : Source → List ℕ) (kind : NodeKind) (xs : List ℕ) (cause : Cause) → KindGives m called learned list kind xs → KindFails m called learned list kind cause → ⊥
 kind_clash m called learned list (Eval from exprs) xs cause gives fails = let both : Some xs ≡ None = sym gives ∙ fails.0 in cc
@@ -40,17 +44,18 @@ kind_clash m called learned list (Chain parts) xs cause gives fails = absurd fai
 kind_clash m called learned list (Sum parts) xs cause gives fails = absurd fails
 kind_clash m called learned list (Product parts) xs cause gives fails = absurd fails
 kind_clash m called learned list (Matmul left right rows mid cols) xs cause gives fails = absurd fails
+kind_clash m called learned list (Dense from rows unknowns want) xs cause gives fails = fails.0 (record { multiples = gives.solved.c; constant = gives.solved.d; tells = gives.solved.tells })
 
-node_gives : (m : ℕ) (called : ℕ → Meaning) (learned : List ℕ) (list : Source → List ℕ) (kind : NodeKind) (needed : Bool) (xs ys : List ℕ) → MatchBool needed (KindGives m called learned list kind xs) (xs ≡ []) → MatchBool needed (KindGives m called learned list kind ys) (ys ≡ []) → xs ≡ ys
-node_gives m called learned list kind true xs ys first second = kind_gives m called learned list kind xs ys first second
-node_gives m called learned list kind false xs ys first second = first ∙ sym second
+pub node_gives : (m : ℕ) (called : ℕ → Meaning) (learned : List ℕ) (list : Source → List ℕ) (kind : NodeKind) (needed : Bool) (xs ys : List ℕ) → 1 < m → MatchBool needed (KindGives m called learned list kind xs) (xs ≡ []) → MatchBool needed (KindGives m called learned list kind ys) (ys ≡ []) → xs ≡ ys
+node_gives m called learned list kind true xs ys large first second = kind_gives m called learned list kind xs ys large first second
+node_gives m called learned list kind false xs ys large first second = first ∙ sym second
 
-node_clash : (m : ℕ) (called : ℕ → Meaning) (learned : List ℕ) (list : Source → List ℕ) (kind : NodeKind) (needed : Bool) (xs : List ℕ) (cause : Cause) → MatchBool needed (KindGives m called learned list kind xs) (xs ≡ []) → IsTrue needed → KindFails m called learned list kind cause → ⊥
+pub node_clash : (m : ℕ) (called : ℕ → Meaning) (learned : List ℕ) (list : Source → List ℕ) (kind : NodeKind) (needed : Bool) (xs : List ℕ) (cause : Cause) → MatchBool needed (KindGives m called learned list kind xs) (xs ≡ []) → IsTrue needed → KindFails m called learned list kind cause → ⊥
 node_clash m called learned list kind true xs cause gives needed fails = kind_clash m called learned list kind xs cause gives fails
 node_clash m called learned list kind false xs cause gives needed fails = false≢true needed
 
 -- two lists of what the first nodes give agree as far as both go
-module _ (m : ℕ) (called : ℕ → Meaning) (learned : List (List ℕ)) (nodes : List Node) (inputs : List ℕ) where
+module _ (m : ℕ) (called : ℕ → Meaning) (learned : List (List ℕ)) (nodes : List Node) (inputs : List ℕ) (large : 1 < m) where
   agree : (lists others : List (List ℕ)) → FirstLists m called learned nodes inputs lists → FirstLists m called learned nodes inputs others → (n : ℕ) → n ≤ length lists → n ≤ length others → take n lists ≡ take n others
   agree lists others first second zero within within_others = refl
   agree lists others first second (suc n) within within_others =
@@ -60,7 +65,7 @@ module _ (m : ℕ) (called : ℕ → Meaning) (learned : List (List ℕ)) (nodes
       let before : take n lists ≡ take n others = agree lists others first second n (omega arith) (omega arith) in
       let here = first.each n node.0 below node.1 in
       let there = subst (λ (ls : List (List ℕ)). NodeGives m called (slice_index_or learned n []) (named inputs ls) node.0 (slice_index_or others n [])) (sym before) (second.each n node.0 below_others node.1) in
-      let same : get_or lists n [] ≡ get_or others n [] = node_gives m called (slice_index_or learned n []) (named inputs (take n lists)) node.0.kind node.0.needed (slice_index_or lists n []) (slice_index_or others n []) here there in
+      let same : get_or lists n [] ≡ get_or others n [] = node_gives m called (slice_index_or learned n []) (named inputs (take n lists)) node.0.kind node.0.needed (slice_index_or lists n []) (slice_index_or others n []) large here there in
       take-suc lists n [] below ∙ ap (λ ls. ls ++ get_or lists n [] ∷ []) before ∙ ap (λ x. take n others ++ x ∷ []) same ∙ sym (take-suc others n [] below_others)
 
   -- lists that go past a place give that node's list, so that it doesn't fail there
@@ -76,10 +81,10 @@ module _ (m : ℕ) (called : ℕ → Meaning) (learned : List (List ℕ)) (nodes
   same_lists lists others first second same =
       sym (take-length lists) ∙ agree lists others first second (length lists) (omega arith) (omega arith) ∙ ap (λ n. take n others) same ∙ take-length others
 
-module _ (m : ℕ) (called : ℕ → Meaning) (learned : List (List ℕ)) (graph : Graph) (inputs : List ℕ) where
+module _ (m : ℕ) (called : ℕ → Meaning) (learned : List (List ℕ)) (graph : Graph) (inputs : List ℕ) (large : 1 < m) where
   value_once : (xs ys : List ℕ) → IsValue m called learned graph inputs xs → IsValue m called learned graph inputs ys → xs ≡ ys
   value_once xs ys first second =
-      let same = same_lists m called learned graph.nodes inputs first.lists second.lists first.first second.first (first.all ∙ sym second.all) in
+      let same = same_lists m called learned graph.nodes inputs large first.lists second.lists first.first second.first (first.all ∙ sym second.all) in
       first.output ∙ ap (λ ls. named inputs ls graph.output) same ∙ sym second.output
 
   value_or_singular : (xs : List ℕ) (n : ℕ) (cause : Cause) → IsValue m called learned graph inputs xs → IsSingular m called learned graph inputs n cause → ⊥
@@ -87,24 +92,24 @@ module _ (m : ℕ) (called : ℕ → Meaning) (learned : List (List ℕ)) (graph
       let is : slice_get graph.nodes (length second.lists) ≡ Some second.node = ap (slice_get graph.nodes) second.before ∙ second.is_node in
       let within : length second.lists < length graph.nodes = slice_get_within graph.nodes (length second.lists) second.node is in
       let fails = subst (λ (k : ℕ). NodeFails m called (slice_index_or learned k []) (named inputs second.lists) second.node cause) (sym second.before) second.fails in
-      no_clash m called learned graph.nodes inputs first.lists second.lists second.node cause first.first second.first (omega (arith, first.all)) is fails
+      no_clash m called learned graph.nodes inputs large first.lists second.lists second.node cause first.first second.first (omega (arith, first.all)) is fails
 
   -- of two nodes without a value the later one isn't the first
   not_later : (n k : ℕ) (a b : Cause) → IsSingular m called learned graph inputs n a → IsSingular m called learned graph inputs k b → k < n → ⊥
   not_later n k a b first second earlier =
       let is : slice_get graph.nodes (length second.lists) ≡ Some second.node = ap (slice_get graph.nodes) second.before ∙ second.is_node in
       let fails = subst (λ (j : ℕ). NodeFails m called (slice_index_or learned j []) (named inputs second.lists) second.node b) (sym second.before) second.fails in
-      no_clash m called learned graph.nodes inputs first.lists second.lists second.node b first.first second.first (omega (arith, first.before, second.before)) is fails
+      no_clash m called learned graph.nodes inputs large first.lists second.lists second.node b first.first second.first (omega (arith, first.before, second.before)) is fails
 
   same_cause : (n : ℕ) (a b : Cause) → IsSingular m called learned graph inputs n a → IsSingular m called learned graph inputs n b → a ≡ b
   same_cause n a b first second =
-      let same = same_lists m called learned graph.nodes inputs first.lists second.lists first.first second.first (first.before ∙ sym second.before) in
+      let same = same_lists m called learned graph.nodes inputs large first.lists second.lists first.first second.first (first.before ∙ sym second.before) in
       let nodes : Some first.node ≡ Some second.node = sym first.is_node ∙ second.is_node in
       let node : first.node ≡ second.node = cc in
       let fails = subst (λ (o : Node). NodeFails m called (slice_index_or learned n []) (named inputs first.lists) o b) (sym node) (subst (λ (ls : List (List ℕ)). NodeFails m called (slice_index_or learned n []) (named inputs ls) second.node b) (sym same) second.fails) in
       kind_fails m called (slice_index_or learned n []) (named inputs first.lists) first.node.kind a b first.fails.1 fails.1
 
-  means_once : (o p : Outcome) → GraphMeans m called learned graph inputs o → GraphMeans m called learned graph inputs p → o ≡ p
+  means_once : (one other : Outcome) → GraphMeans m called learned graph inputs one → GraphMeans m called learned graph inputs other → one ≡ other
   means_once (Value xs) (Value ys) first second = ap Value (value_once xs ys first second)
   means_once (Value xs) (SingularAt n cause) first second = absurd (value_or_singular xs n cause first second)
   means_once (SingularAt n cause) (Value ys) first second = absurd (value_or_singular ys n cause second first)
@@ -115,9 +120,9 @@ module _ (m : ℕ) (called : ℕ → Meaning) (learned : List (List ℕ)) (graph
       let cause : a ≡ b = same_cause n a b first (subst (λ (j : ℕ). IsSingular m called learned graph inputs j b) (sym same) second) in
       ap (λ j. SingularAt j a) same ∙ ap (SingularAt k) cause
 
-means_at_once : (m : ℕ) (called : ℕ → Meaning) (learned : List (List ℕ)) (graph : Option Graph) (inputs : List ℕ) (o p : Outcome) → MeansAt m called learned graph inputs o → MeansAt m called learned graph inputs p → o ≡ p
-means_at_once m called learned None inputs o p first second = absurd first
-means_at_once m called learned (Some graph) inputs o p first second = means_once m called learned graph inputs o p first second
+means_at_once : (m : ℕ) (called : ℕ → Meaning) (learned : List (List ℕ)) (graph : Option Graph) (inputs : List ℕ) (one other : Outcome) → 1 < m → MeansAt m called learned graph inputs one → MeansAt m called learned graph inputs other → one ≡ other
+means_at_once m called learned None inputs one other large first second = absurd first
+means_at_once m called learned (Some graph) inputs one other large first second = means_once m called learned graph inputs large one other first second
 
-pub one_outcome : (m : ℕ) (graphs : List Graph) (learned : List (List (List ℕ))) (number : ℕ) (inputs : List ℕ) (o p : Outcome) → GraphValue m graphs learned number inputs o → GraphValue m graphs learned number inputs p → o ≡ p
-one_outcome m graphs learned number inputs o p first second = means_at_once m (meanings m graphs learned number) (slice_index_or learned number []) (slice_get graphs number) inputs o p first second
+pub one_outcome : (m : ℕ) (graphs : List Graph) (learned : List (List (List ℕ))) (number : ℕ) (inputs : List ℕ) (one other : Outcome) → 1 < m → GraphValue m graphs learned number inputs one → GraphValue m graphs learned number inputs other → one ≡ other
+one_outcome m graphs learned number inputs one other large first second = means_at_once m (meanings m graphs learned number) (slice_index_or learned number []) (slice_get graphs number) inputs one other large first second

@@ -1,26 +1,28 @@
 -- What a node's length says of the lists that it names.
 use Rattle.std.proofs.Common.{◌≡◌, Result, Ok, Err, ℕ, ◌+◌, ◌-◌, ◌*◌, ◌≤◌, Bool, true, false, List, [], ◌∷◌, All, length, map, get_or, sum, Some, None, refl, sym, ◌∙◌, ap, subst, arith}
-use Rattle.std.specs.Prelude.{◌&&◌, ◌==◌, IfErr, nat_le, option_map, slice_get}
+use Rattle.std.specs.Prelude.{◌&&◌, ◌==◌, IfErr, OnOk, nat_le, option_map, slice_get}
 use Rattle.std.proofs.Math.Nat.{le-max_left, le-max_right}
 use Rattle.std.proofs.lemmas.Bool.{eqb-true, leb-true, false≢true}
 use lib.ListN.{get_or-map as get_or-map_default}
 use Rattle.std.proofs.lemmas.List.{length-map, get_or-map}
 use Rattle.std.proofs.lemmas.List.Elements.{All-nil, All-cons, All-head, All-tail, All-get_or, All-from_get_or}
 use Rattle.std.proofs.lemmas.Option.{get_or_from_slice_get, slice_get-get_or, slice_get-map, slice_get_within}
+use Rattle.prime_field.specs.Residue.{IsPrime}
 use Rattle.ratfun_text.specs.Value.{greatest, value}
 use Rattle.ratfun_text.specs.declared.expr.Expr.{Expr}
 use Rattle.basic_nodes.specs.Lengths.{are_equal, are_within}
 use Rattle.basic_nodes.specs.Plain.{chained}
 use Rattle.basic_nodes.proofs.LengthRules.{ruled_some, are_equal_at, are_within_at}
 use Rattle.basic_nodes.proofs.Pieces.{length-chained}
+use Rattle.graph_file.specs.Line.{all_of}
 use Rattle.graph_file.specs.Needed.{sources_of}
 use Rattle.graph_file.specs.Sound.{IsKind}
 use Rattle.graph_file.specs.declared.graph.NodeKind.{NodeKind}
-use Rattle.graph_file.specs.declared.graph.NodeKind.TheVariants.{Eval, Take, Slice, Chain, Sum, Product, Matmul}
+use Rattle.graph_file.specs.declared.graph.NodeKind.TheVariants.{Eval, Take, Slice, Chain, Sum, Product, Matmul, Dense}
 use Rattle.graph_file.specs.declared.graph.Source.{Source}
 use Rattle.graph_file.specs.declared.graph.Source.TheVariants as source
 use Rattle.graph_eval.specs.Evaluated.{IsAmong, no_graphs}
-use Rattle.graph_eval.specs.GraphValue.{KindFails, all_of, named}
+use Rattle.graph_eval.specs.GraphValue.{KindFails, KindGives, named}
 use Rattle.graph_eval.specs.declared.outcome.Cause.{Cause}
 use Rattle.graph_eval.specs.declared.outcome.Cause.TheVariants.{Division}
 use Rattle.graph_eval.specs.Learned.{greatest_among, kind_length, named_length}
@@ -50,15 +52,22 @@ pub second_among : (variables number : ℕ) (kind : NodeKind) (first second : So
 second_among variables number kind first second names is =
     All-head (IsAmong number) second [] (All-tail (IsAmong number) first (second ∷ []) (subst (All (IsAmong number)) names (sources_sound variables number kind is)))
 
--- a node that evaluates expressions fails where one has no value
-pub eval_fails : (m : ℕ) (list : Source → List ℕ) (kind : NodeKind) (from : Source) (exprs shown : List Expr) (arguments : List ℕ) (answer : Result (Unit {0}) Cause) → kind ≡ Eval from exprs → arguments ≡ list from → shown ≡ exprs
-    → IfErr answer (λ cause. (all_of (map (value m arguments) shown) ≡ None) × (cause ≡ Division)) → IfErr answer (KindFails m no_graphs [] list kind)
-eval_fails m list kind from exprs shown arguments (Ok done) is arguments_is shown_is fails = tt
-eval_fails m list kind from exprs shown arguments (Err cause) is arguments_is shown_is fails =
-    subst (λ (k : NodeKind). KindFails m no_graphs [] list k cause) (sym is)
+-- a node that evaluates expressions gives their values, and fails where one has none
+pub eval_gives : (m : ℕ) (set : List ℕ) (list : Source → List ℕ) (kind : NodeKind) (from : Source) (exprs shown : List Expr) (arguments values : List ℕ) (answer : Result (Unit {0}) Cause) → kind ≡ Eval from exprs → arguments ≡ list from → shown ≡ exprs
+    → OnOk answer (all_of (map (value m arguments) shown) ≡ Some values) → OnOk answer (IsPrime m → KindGives m no_graphs set list kind values)
+eval_gives m set list kind from exprs shown arguments values (Err cause) is arguments_is shown_is gives = tt
+eval_gives m set list kind from exprs shown arguments values (Ok done) is arguments_is shown_is gives = λ prime.
+    subst (λ (k : NodeKind). KindGives m no_graphs set list k values) (sym is)
+    (ap (λ xs. all_of (map (value m xs) exprs)) (sym arguments_is) ∙ ap (λ es. all_of (map (value m arguments) es)) (sym shown_is) ∙ gives)
+
+pub eval_fails : (m : ℕ) (set : List ℕ) (list : Source → List ℕ) (kind : NodeKind) (from : Source) (exprs shown : List Expr) (arguments : List ℕ) (answer : Result (Unit {0}) Cause) → kind ≡ Eval from exprs → arguments ≡ list from → shown ≡ exprs
+    → IfErr answer (λ cause. (all_of (map (value m arguments) shown) ≡ None) × (cause ≡ Division)) → IfErr answer (λ cause. IsPrime m → KindFails m no_graphs set list kind cause)
+eval_fails m set list kind from exprs shown arguments (Ok done) is arguments_is shown_is fails = tt
+eval_fails m set list kind from exprs shown arguments (Err cause) is arguments_is shown_is fails = λ prime.
+    subst (λ (k : NodeKind). KindFails m no_graphs set list k cause) (sym is)
     (ap (λ xs. all_of (map (value m xs) exprs)) (sym arguments_is) ∙ ap (λ es. all_of (map (value m arguments) es)) (sym shown_is) ∙ fails.0, fails.1)
 
-module _ (inputs : List ℕ) (lists : List (List ℕ)) where
+module _ (inputs : List ℕ) (lists : List (List ℕ)) (set : List ℕ) where
   abbrev room : Source → ℕ
   room = named_length (length inputs) (map (λ xs. length xs) lists)
 
@@ -71,7 +80,7 @@ module _ (inputs : List ℕ) (lists : List (List ℕ)) where
   rooms_are [] = refl
   rooms_are (from ∷ sources) = ap (λ n. n ∷ map room sources) (room_is from) ∙ ap (λ ns. length (named inputs lists from) ∷ ns) (rooms_are sources)
 
-  module _ (from : Source) (exprs : List Expr) (own : ℕ) (has : kind_length (length inputs) (map (λ xs. length xs) lists) (Eval from exprs) ≡ Some own) where
+  module _ (from : Source) (exprs : List Expr) (own : ℕ) (has : kind_length (length inputs) (map (λ xs. length xs) lists) set (Eval from exprs) ≡ Some own) where
     pub eval_room : length exprs ≡ own
     eval_room = (ruled_some (nat_le (greatest_among exprs) (room from)) (length exprs) own has).1
 
@@ -80,7 +89,7 @@ module _ (inputs : List ℕ) (lists : List (List ℕ)) where
         let within : greatest_among exprs ≤ room from = leb-true _ _ (ruled_some (nat_le (greatest_among exprs) (room from)) (length exprs) own has).0 in
         greatest_each exprs (length (named inputs lists from)) (omega (arith, room_is from))
 
-  module _ (parts : List (Source × ℕ)) (own : ℕ) (has : kind_length (length inputs) (map (λ xs. length xs) lists) (Take parts) ≡ Some own) where
+  module _ (parts : List (Source × ℕ)) (own : ℕ) (has : kind_length (length inputs) (map (λ xs. length xs) lists) set (Take parts) ≡ Some own) where
     pub take_room : length parts ≡ own
     take_room = sym (length-map parts (λ part. part.1)) ∙ (ruled_some (are_within (map (λ part. part.1) parts) (map room (map (λ part. part.0) parts))) (length (map (λ part. part.1) parts)) own has).1
 
@@ -101,7 +110,7 @@ module _ (inputs : List ℕ) (lists : List (List ℕ)) where
           last = omega (arith, within, mine, theirs, room_is part.0);
         })
 
-  module _ (from : Source) (first last own : ℕ) (has : kind_length (length inputs) (map (λ xs. length xs) lists) (Slice from first last) ≡ Some own) where
+  module _ (from : Source) (first last own : ℕ) (has : kind_length (length inputs) (map (λ xs. length xs) lists) set (Slice from first last) ≡ Some own) where
     pub slice_room : last + 1 - first ≡ own
     slice_room = (ruled_some (nat_le last (room from)) (last + 1 - first) own has).1
 
@@ -110,7 +119,7 @@ module _ (inputs : List ℕ) (lists : List (List ℕ)) where
         let within : last ≤ room from = leb-true _ _ (ruled_some (nat_le last (room from)) (last + 1 - first) own has).0 in
         omega (arith, room_is from)
 
-  pub chain_room : (parts : List Source) (own : ℕ) → kind_length (length inputs) (map (λ xs. length xs) lists) (Chain parts) ≡ Some own → own ≡ length (chained (map (named inputs lists) parts))
+  pub chain_room : (parts : List Source) (own : ℕ) → kind_length (length inputs) (map (λ xs. length xs) lists) set (Chain parts) ≡ Some own → own ≡ length (chained (map (named inputs lists) parts))
   chain_room parts own has =
       sym (ruled_some true (sum (map room parts)) own has).1
       ∙ ap sum (rooms_are parts)
@@ -123,13 +132,13 @@ module _ (inputs : List ℕ) (lists : List (List ℕ)) where
       let at : get_or (map room parts) i 0 ≡ room (get_or parts i source.Input) = get_or-map room parts i source.Input 0 below in
       sym (room_is (get_or parts i source.Input)) ∙ sym at ∙ same ∙ is)
 
-  pub sum_same : (parts : List Source) (own : ℕ) → kind_length (length inputs) (map (λ xs. length xs) lists) (Sum parts) ≡ Some own → All (HasLength inputs lists own) parts
+  pub sum_same : (parts : List Source) (own : ℕ) → kind_length (length inputs) (map (λ xs. length xs) lists) set (Sum parts) ≡ Some own → All (HasLength inputs lists own) parts
   sum_same parts own has = let rule = ruled_some (are_equal (map room parts)) (get_or (map room parts) 0 0) own has in same_room parts own rule.0 rule.1
 
-  pub product_same : (parts : List Source) (own : ℕ) → kind_length (length inputs) (map (λ xs. length xs) lists) (Product parts) ≡ Some own → All (HasLength inputs lists own) parts
+  pub product_same : (parts : List Source) (own : ℕ) → kind_length (length inputs) (map (λ xs. length xs) lists) set (Product parts) ≡ Some own → All (HasLength inputs lists own) parts
   product_same parts own has = let rule = ruled_some (are_equal (map room parts)) (get_or (map room parts) 0 0) own has in same_room parts own rule.0 rule.1
 
-  module _ (left right : Source) (rows mid cols own : ℕ) (has : kind_length (length inputs) (map (λ xs. length xs) lists) (Matmul left right rows mid cols) ≡ Some own) where
+  module _ (left right : Source) (rows mid cols own : ℕ) (has : kind_length (length inputs) (map (λ xs. length xs) lists) set (Matmul left right rows mid cols) ≡ Some own) where
     fits : ((room left == rows * mid) ≡ true) × ((room right == mid * cols) ≡ true)
     fits = both_true (room left == rows * mid) (room right == mid * cols) (ruled_some (room left == rows * mid && room right == mid * cols) (rows * cols) own has).0
 
@@ -141,3 +150,10 @@ module _ (inputs : List ℕ) (lists : List (List ℕ)) where
 
     pub matmul_right : length (named inputs lists right) ≡ mid * cols
     matmul_right = sym (room_is right) ∙ eqb-true (room right) (mid * cols) fits.1
+
+  module _ (from : Source) (rows unknowns : ℕ) (want : List ℕ) (own : ℕ) (has : kind_length (length inputs) (map (λ xs. length xs) lists) set (Dense from rows unknowns want) ≡ Some own) where
+    pub dense_room : own ≡ length want * (length set + 1)
+    dense_room = sym (ruled_some (room from == rows * (unknowns + 1)) (length want * (length set + 1)) own has).1
+
+    pub dense_entries : length (named inputs lists from) ≡ rows * (unknowns + 1)
+    dense_entries = sym (room_is from) ∙ eqb-true (room from) (rows * (unknowns + 1)) (ruled_some (room from == rows * (unknowns + 1)) (length want * (length set + 1)) own has).0

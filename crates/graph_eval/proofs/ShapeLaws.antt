@@ -1,50 +1,88 @@
 -- What a sound node says of its length's rule.
-use Rattle.std.proofs.Common.{◌≡◌, ◌≢◌, ℕ, suc, ◌≤◌, List, [], ◌∷◌, All, length, map, get_or, Some, refl, sym, ◌∙◌, arith, inl, inr}
+use Rattle.std.proofs.Common.{◌≡◌, ◌≢◌, ℕ, zero, suc, ◌<◌, ◌≤◌, Bool, true, false, MatchBool, List, [], ◌∷◌, All, length, map, get_or, Some, refl, sym, ◌∙◌, arith, inl, inr}
 use Rattle.std.specs.Prelude.{slice_get}
 use Rattle.std.proofs.lemmas.Bool.{cases_lt}
 use Rattle.std.proofs.lemmas.List.{length-map, get_or_past}
 use Rattle.std.proofs.lemmas.List.Elements.{All-nil, All-cons, All-map, All-get_or, All-from_get_or}
 use Rattle.basic_nodes.specs.Lengths.{IsShape, HasLists, IsPosition}
+use Rattle.elim_core.specs.Solver.{AreUnknowns, IsAscending}
 use Rattle.graph_file.specs.Needed.{sources_of}
 use Rattle.graph_file.specs.Sound.{IsKind}
+use Rattle.graph_file.specs.declared.graph.Node.{Node}
 use Rattle.graph_file.specs.declared.graph.NodeKind.{NodeKind}
-use Rattle.graph_file.specs.declared.graph.NodeKind.TheVariants.{Eval, Take, Slice, Chain, Sum, Product, Matmul}
+use Rattle.graph_file.specs.declared.graph.NodeKind.TheVariants.{Eval, Take, Slice, Chain, Sum, Product, Matmul, Dense}
 use Rattle.graph_file.specs.declared.graph.Source.{Source}
 use Rattle.graph_file.specs.declared.graph.Source.TheVariants as source
 use Rattle.graph_eval.specs.Evaluated.{IsAmong}
-use Rattle.graph_eval.specs.Learned.{shape_of, named_length}
+use Rattle.graph_eval.specs.Learned.{IsKindSet, IsSetFor, shape_of, named_length}
 
 -- what holds of what stands at each place holds of all
 pub All-from_get : {X : Type 0} (P : X → Type 0) (xs : List X) → ((k : ℕ) (x : X) → slice_get xs k ≡ Some x → P x) → All P xs
 All-from_get P [] each = All-nil P
 All-from_get P (x ∷ xs) each = All-cons P x xs (each 0 x refl) (All-from_get P xs (λ k y is. each (suc k) y is))
 
+-- the set of a solver has no more numbers than there are unknowns
+ascending_at : (set : List ℕ) → IsAscending set → (u : ℕ) → AreUnknowns u set → (i : ℕ) → i < length set → i < get_or set i 0
+ascending_at set ascending u numbers zero low = (numbers 0 low).0
+ascending_at set ascending u numbers (suc i) low =
+    let before = ascending_at set ascending u numbers i (omega arith) in
+    omega (arith, before, ascending i (suc i) (omega arith) low)
+
+pub set_small : (u : ℕ) (set : List ℕ) → IsAscending set → AreUnknowns u set → length set ≤ u
+set_small u [] ascending numbers = omega arith
+set_small u (x ∷ set) ascending numbers =
+    let last = ascending_at (x ∷ set) ascending u numbers (length set) (omega arith) in
+    omega (arith, last, (numbers (length set) (omega arith)).1)
+
+-- nothing is learned for a node that is no solver, and may be learned for each node
+pub empty_kind_set : (kind : NodeKind) → IsKindSet kind []
+empty_kind_set (Eval from exprs) = refl
+empty_kind_set (Take parts) = refl
+empty_kind_set (Slice from first last) = refl
+empty_kind_set (Chain parts) = refl
+empty_kind_set (Sum parts) = refl
+empty_kind_set (Product parts) = refl
+empty_kind_set (Matmul left right rows mid cols) = refl
+empty_kind_set (Dense from rows unknowns want) = (λ i j order low. absurd (omega arith), λ i low. absurd (omega arith))
+
+set_when : (needed : Bool) (kind : NodeKind) → MatchBool needed (IsKindSet kind []) (◌≡◌ {A = List ℕ} [] [])
+set_when true kind = empty_kind_set kind
+set_when false kind = refl
+
+pub empty_set_for : (node : Node) → IsSetFor node []
+empty_set_for node = set_when node.needed node.kind
+
 -- the numbers of a sound node are in their ranges
-pub shape_sound : (variables number : ℕ) (kind : NodeKind) → IsKind variables number kind → IsShape (shape_of kind)
-shape_sound variables number (Eval from exprs) is = tt
-shape_sound variables number (Take parts) is =
+pub shape_sound : (variables number : ℕ) (set : List ℕ) (kind : NodeKind) → IsKind variables number kind → IsKindSet kind set → IsShape (shape_of set kind)
+shape_sound variables number set (Eval from exprs) is learned = tt
+shape_sound variables number set (Take parts) is learned =
     All-map IsPosition (λ part. part.1) parts (All-from_get (λ part. IsPosition part.1) parts (λ k part at. let position = is.positions parts refl k part at in (position.first, position.last)))
-shape_sound variables number (Slice from first last) is = is.range from first last refl
-shape_sound variables number (Chain parts) is = tt
-shape_sound variables number (Sum parts) is = tt
-shape_sound variables number (Product parts) is = tt
-shape_sound variables number (Matmul left right rows mid cols) is =
+shape_sound variables number set (Slice from first last) is learned = is.range from first last refl
+shape_sound variables number set (Chain parts) is learned = tt
+shape_sound variables number set (Sum parts) is learned = tt
+shape_sound variables number set (Product parts) is learned = tt
+shape_sound variables number set (Matmul left right rows mid cols) is learned =
     let sides = is.sides left right rows mid cols refl in
     record { rows_low = sides.height.first; mid_low = sides.depth.first; cols_low = sides.width.first; left = sides.left; right = sides.right; result = sides.whole }
+shape_sound variables number set (Dense from rows unknowns want) is learned =
+    let dense = is.dense from rows unknowns want refl in
+    let small = set_small unknowns set learned.0 learned.1 in
+    omega (arith, dense.unknowns_high, small)
 
 some_part : {X : Type 0} (xs : List X) → xs ≢ [] → 1 ≤ length xs
 some_part [] some = absurd (some refl)
 some_part (x ∷ xs) some = omega arith
 
 -- a sound node names as many lists as its kind wants
-pub lists_sound : (variables number : ℕ) (kind : NodeKind) → IsKind variables number kind → HasLists (shape_of kind) (length (sources_of kind))
-lists_sound variables number (Eval from exprs) is = refl
-lists_sound variables number (Take parts) is = length-map parts (λ part. part.0) ∙ sym (length-map parts (λ part. part.1))
-lists_sound variables number (Slice from first last) is = refl
-lists_sound variables number (Chain parts) is = tt
-lists_sound variables number (Sum parts) is = some_part parts is.some
-lists_sound variables number (Product parts) is = some_part parts is.some
-lists_sound variables number (Matmul left right rows mid cols) is = refl
+pub lists_sound : (variables number : ℕ) (set : List ℕ) (kind : NodeKind) → IsKind variables number kind → HasLists (shape_of set kind) (length (sources_of kind))
+lists_sound variables number set (Eval from exprs) is = refl
+lists_sound variables number set (Take parts) is = length-map parts (λ part. part.0) ∙ sym (length-map parts (λ part. part.1))
+lists_sound variables number set (Slice from first last) is = refl
+lists_sound variables number set (Chain parts) is = tt
+lists_sound variables number set (Sum parts) is = some_part parts is.some
+lists_sound variables number set (Product parts) is = some_part parts is.some
+lists_sound variables number set (Matmul left right rows mid cols) is = refl
+lists_sound variables number set (Dense from rows unknowns want) is = refl
 
 among : (variables number : ℕ) (kind : NodeKind) → IsKind variables number kind → (i : ℕ) (from : Source) → slice_get (sources_of kind) i ≡ Some from → IsAmong number from
 among variables number kind is i source.Input at = tt

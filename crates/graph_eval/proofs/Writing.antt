@@ -12,7 +12,8 @@ use Rattle.basic_nodes.proofs.Pieces.{taken-more, chained-more}
 use Rattle.basic_nodes.proofs.Plain.{summed-one, summed-more, multiplied-one, multiplied-more}
 use Rattle.graph_file.specs.declared.graph.Source.{Source}
 use Rattle.graph_file.specs.declared.graph.Source.TheVariants as source
-use Rattle.graph_eval.specs.GraphValue.{all_of, named}
+use Rattle.graph_file.specs.Line.{all_of}
+use Rattle.graph_eval.specs.GraphValue.{named}
 use Rattle.graph_eval.proofs.Gathered.{onto, asked_there}
 
 -- the lists of one part more

@@ -1,5 +1,5 @@
 -- What evaluating a node or a graph answers.
-use Rattle.std.specs.Prelude.{◌≡◌, ℕ, ◌<◌, List, Option, Some, None, Result, Ok, Err, ⊤, length}
+use Rattle.std.specs.Prelude.{◌≡◌, ℕ, ◌<◌, All, IsTrue, List, Option, Some, None, Result, Ok, Err, ⊤, length, slice_get}
 use Rattle.graph_file.specs.declared.graph.Graph.{Graph}
 use Rattle.graph_file.specs.declared.graph.Node.{Node}
 use Rattle.graph_file.specs.declared.graph.Source.{Source}
@@ -32,3 +32,13 @@ IsAmong count (source.Node number) = number < count
 abbrev pub HasInputs : Option Graph → List ℕ → Type 0
 HasInputs None point = ⊥
 HasInputs (Some graph) point = length point ≡ length graph.inputs
+
+-- the graph has a node with this number, and it is needed
+abbrev pub IsNeededNode : Graph → ℕ → Type 0
+IsNeededNode graph n = (node : Node) × (slice_get graph.nodes n ≡ Some node) × IsTrue node.needed
+
+-- whatever the modulus: the values that were written are residues, or the node that is told is needed
+abbrev pub FitsOutcome : ℕ → Option Graph → List ℕ → code.Outcome → Type 0
+FitsOutcome m None values outcome = ⊥
+FitsOutcome m (Some graph) values answer.Defined = All (λ x. x < m) values
+FitsOutcome m (Some graph) values (answer.Singular singular) = IsNeededNode graph singular.node

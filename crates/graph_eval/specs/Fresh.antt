@@ -1,15 +1,100 @@
--- What learning a graph answers.
-use Rattle.std.specs.Prelude.{◌≡◌, ℕ, List, Some, None, slice_get}
+-- What learning a graph answers: by its length rules alone, or at a point.
+use Rattle.std.specs.Prelude.{◌≡◌, ℕ, ◌+◌, ◌*◌, ◌<◌, ◌==◌, MatchBool, List, [], length, take, slice_get, slice_index_or, Some, None}
 use Rattle.graph_file.specs.declared.graph.Graph.{Graph}
-use Rattle.graph_eval.specs.declared.lengths.Fresh.{Fresh}
-use Rattle.graph_eval.specs.declared.lengths.Fresh.TheVariants as fresh
-use Rattle.graph_eval.specs.Learned.{FitsGraph, FailsLength}
+use Rattle.graph_file.specs.declared.graph.Node.{Node}
+use Rattle.graph_file.specs.declared.graph.NodeKind.{NodeKind}
+use Rattle.graph_file.specs.declared.graph.NodeKind.TheVariants.{Dense}
+use Rattle.graph_file.specs.declared.graph.Source.{Source}
+use Rattle.graph_eval.specs.declared.fresh.Fresh.{Fresh}
+use Rattle.graph_eval.specs.declared.fresh.Fresh.TheVariants as fresh
+use Rattle.graph_eval.specs.declared.learned.GraphLearned.{GraphLearned}
+use Rattle.graph_eval.specs.declared.outcome.Cause.{Cause}
+use Rattle.graph_eval.specs.Evaluated.{IsNeededNode}
+use Rattle.graph_eval.specs.GraphValue.{FirstLists, Meaning, NodeFails, meanings, named}
+use Rattle.graph_eval.specs.Learned.{FailsLength, FirstLengths, FitsGraph, named_length, node_length}
+use Rattle.graph_eval.specs.Systems.{IsOwnSet, rows_in}
 
--- what was learned fits the graph, with no point, or the rule of a node's length fails
-abbrev pub IsFresh : Graph → Fresh → Type 0
-IsFresh graph (fresh.Learned learned) = (learned.point ≡ None) × FitsGraph graph learned
-IsFresh graph (fresh.Length node) = FailsLength graph node
+-- By its length rules alone, for a graph none of whose needed nodes is a solver: what was learned fits the graph, with no
+-- point, or the rule of a node's length fails.
+abbrev pub IsMeasured : Graph → Fresh → Type 0
+IsMeasured graph (fresh.Learned learned) = (learned.point ≡ None) × FitsGraph graph learned
+IsMeasured graph (fresh.Singular singular) = ⊥
+IsMeasured graph (fresh.Length node) = FailsLength graph node
 
 -- the same of the graph with this number
-abbrev pub IsFreshAt : List Graph → ℕ → Fresh → Type 0
-IsFreshAt graphs number answer = (graph : Graph) × (slice_get graphs number ≡ Some graph) × IsFresh graph answer
+abbrev pub IsMeasuredAt : List Graph → ℕ → Fresh → Type 0
+IsMeasuredAt graphs number answer = (graph : Graph) × (slice_get graphs number ≡ Some graph) × IsMeasured graph answer
+
+-- the set of a node that solves a system: the independent unknowns of its own system, or nothing where the list that it
+-- names hasn't the system's entries
+abbrev pub IsOwnOf : ℕ → ℕ → ℕ → List ℕ → List ℕ → Type 0
+IsOwnOf m rows unknowns list set = MatchBool (length list == rows * (unknowns + 1)) (IsOwnSet m unknowns (rows_in rows unknowns list) set) (set ≡ [])
+
+-- the set of a node of this kind on the lists that it names; nothing is learned for a node that is no solver
+abbrev pub KindLearns : ℕ → (Source → List ℕ) → NodeKind → List ℕ → Type 0
+KindLearns m list (Dense from rows unknowns want) set = IsOwnOf m rows unknowns (list from) set
+KindLearns m list kind set = set ≡ []
+
+-- the same, where nothing is learned for a node that isn't needed
+abbrev pub NodeLearns : ℕ → (Source → List ℕ) → Node → List ℕ → Type 0
+NodeLearns m list node set = MatchBool node.needed (KindLearns m list node.kind set) (set ≡ [])
+
+-- a graph's first nodes at a point: each with its own set, its length by its rule with this set, and its list over it
+pub record FirstLearned (m : ℕ) (called : ℕ → Meaning) (graph : Graph) (inputs : List ℕ) (sets : List (List ℕ)) (lengths : List ℕ) (lists : List (List ℕ)) : Type 0 where
+  pub many_sets : length sets ≡ length lists
+  pub many_lengths : length lengths ≡ length lists
+  pub own : (n : ℕ) (node : Node) → n < length lists → slice_get graph.nodes n ≡ Some node → NodeLearns m (named inputs (take n lists)) node (slice_index_or sets n [])
+  pub measured : FirstLengths graph sets lengths
+  pub given : FirstLists m called sets graph.nodes inputs lists
+
+-- no node fails, and their sets and lengths were learned, and the output's length
+pub record IsLearned (m : ℕ) (called : ℕ → Meaning) (graph : Graph) (inputs : List ℕ) (learned : GraphLearned) : Type 0 where
+  pub lists : List (List ℕ)
+  pub first : FirstLearned m called graph inputs learned.sets learned.lengths lists
+  pub all : length lists ≡ length graph.nodes
+  pub output : learned.output ≡ named_length (length graph.inputs) learned.lengths graph.output
+  pub point : learned.point ≡ None
+
+-- the nodes before the n-th don't fail, and the n-th has this set of its own
+pub record IsReached (m : ℕ) (called : ℕ → Meaning) (graph : Graph) (inputs : List ℕ) (n : ℕ) : Type 0 where
+  pub sets : List (List ℕ)
+  pub lengths : List ℕ
+  pub lists : List (List ℕ)
+  pub first : FirstLearned m called graph inputs sets lengths lists
+  pub before : length lists ≡ n
+  pub node : Node
+  pub is_node : slice_get graph.nodes n ≡ Some node
+  pub set : List ℕ
+  pub own : NodeLearns m (named inputs lists) node set
+
+-- the n-th node is the first that fails, by the rule of its length
+pub record BreaksLength (m : ℕ) (called : ℕ → Meaning) (graph : Graph) (inputs : List ℕ) (n : ℕ) : Type 0 where
+  pub reached : IsReached m called graph inputs n
+  pub breaks : node_length (length graph.inputs) reached.lengths reached.set reached.node ≡ None
+
+-- the n-th node is the first that fails: it has a length, and no value
+pub record HasNoValue (m : ℕ) (called : ℕ → Meaning) (graph : Graph) (inputs : List ℕ) (n : ℕ) (cause : Cause) : Type 0 where
+  pub reached : IsReached m called graph inputs n
+  pub own_length : ℕ
+  pub measured : node_length (length graph.inputs) reached.lengths reached.set reached.node ≡ Some own_length
+  pub fails : NodeFails m called reached.set (named inputs reached.lists) reached.node cause
+
+-- what learning a graph at a point answers, given what the earlier graphs mean
+abbrev pub IsFresh : ℕ → (ℕ → Meaning) → Graph → List ℕ → Fresh → Type 0
+IsFresh m called graph inputs (fresh.Learned learned) = IsLearned m called graph inputs learned
+IsFresh m called graph inputs (fresh.Singular singular) = HasNoValue m called graph inputs singular.node singular.cause
+IsFresh m called graph inputs (fresh.Length node) = BreaksLength m called graph inputs node
+
+-- the same of the graph with this number in a file, where `learned` has the sets of the graphs before it
+abbrev pub IsFreshAt : ℕ → List Graph → List (List (List ℕ)) → ℕ → List ℕ → Fresh → Type 0
+IsFreshAt m graphs learned number inputs answer = (graph : Graph) × (slice_get graphs number ≡ Some graph) × IsFresh m (meanings m graphs learned number) graph inputs answer
+
+-- whatever the modulus: what was learned fits the graph, with no point, and a node that is told is needed
+abbrev pub FitsFresh : Graph → Fresh → Type 0
+FitsFresh graph (fresh.Learned learned) = (learned.point ≡ None) × FitsGraph graph learned
+FitsFresh graph (fresh.Singular singular) = IsNeededNode graph singular.node
+FitsFresh graph (fresh.Length node) = IsNeededNode graph node
+
+-- the same of the graph with this number
+abbrev pub FitsFreshAt : List Graph → ℕ → Fresh → Type 0
+FitsFreshAt graphs number answer = (graph : Graph) × (slice_get graphs number ≡ Some graph) × FitsFresh graph answer

@@ -1,6 +1,8 @@
--- The lengths of the lists of a graph's nodes.
-use Rattle.std.specs.Prelude.{◌≡◌, ℕ, ◌+◌, ◌-◌, ◌<◌, ◌≤◌, nat_le, max, if◌then◌else◌, List, [], ◌∷◌, length, map, take, sum, slice_get, slice_index, Option, Some, None, option_and_then}
+-- What is learned of a graph: the sets of its solvers' unknowns and the lengths of its nodes' lists.
+use Rattle.std.specs.Prelude.{◌≡◌, ℕ, ◌+◌, ◌-◌, ◌*◌, ◌<◌, ◌≤◌, nat_le, max, if◌then◌else◌, Bool, true, false, ◌&&◌, MatchBool, List, [], ◌∷◌, length, map, take, sum, slice_get, slice_index, slice_index_or, Option, Some, None, option_and_then}
+use Rattle.elim_core.specs.Solver.{AreUnknowns, IsAscending}
 use Rattle.ratfun_text.specs.declared.expr.Expr.{Expr}
+use Rattle.std.specs.List.{list_any}
 use Rattle.ratfun_text.specs.Value.{greatest}
 use Rattle.basic_nodes.specs.Lengths.{length_rule}
 use Rattle.basic_nodes.specs.declared.lengths.NodeShape.{NodeShape}
@@ -9,25 +11,31 @@ use Rattle.graph_file.specs.Needed.{sources_of}
 use Rattle.graph_file.specs.declared.graph.Graph.{Graph}
 use Rattle.graph_file.specs.declared.graph.Node.{Node}
 use Rattle.graph_file.specs.declared.graph.NodeKind.{NodeKind}
-use Rattle.graph_file.specs.declared.graph.NodeKind.TheVariants.{Eval, Take, Slice, Chain, Sum, Product, Matmul}
+use Rattle.graph_file.specs.declared.graph.NodeKind.TheVariants.{Eval, Take, Slice, Chain, Sum, Product, Matmul, Dense}
 use Rattle.graph_file.specs.declared.graph.Source.{Source}
 use Rattle.graph_file.specs.declared.graph.Source.TheVariants as source
 use Rattle.graph_eval.specs.declared.learned.GraphLearned.{GraphLearned}
+
+-- whether a node of this kind solves a system of equations
+abbrev pub is_dense : NodeKind → Bool
+is_dense (Dense from rows unknowns want) = true
+is_dense kind = false
 
 -- the greatest position that an expression among these uses, 0 where none uses any
 abbrev pub greatest_among : List Expr → ℕ
 greatest_among [] = 0
 greatest_among (expr ∷ rest) = max (greatest expr) (greatest_among rest)
 
--- what the length of a node's list depends on
-abbrev pub shape_of : NodeKind → NodeShape
-shape_of (Eval from exprs) = shape.Eval (length exprs) (greatest_among exprs)
-shape_of (Take parts) = shape.Take (map (λ part. part.1) parts)
-shape_of (Slice from first last) = shape.Slice first last
-shape_of (Chain parts) = shape.Chain
-shape_of (Sum parts) = shape.Sum
-shape_of (Product parts) = shape.Product
-shape_of (Matmul left right rows mid cols) = shape.Matmul rows mid cols
+-- what the length of a node's list depends on, where the set was learned for the node
+abbrev pub shape_of : List ℕ → NodeKind → NodeShape
+shape_of set (Eval from exprs) = shape.Eval (length exprs) (greatest_among exprs)
+shape_of set (Take parts) = shape.Take (map (λ part. part.1) parts)
+shape_of set (Slice from first last) = shape.Slice first last
+shape_of set (Chain parts) = shape.Chain
+shape_of set (Sum parts) = shape.Sum
+shape_of set (Product parts) = shape.Product
+shape_of set (Matmul left right rows mid cols) = shape.Matmul rows mid cols
+shape_of set (Dense from rows unknowns want) = shape.Solver (rows * (unknowns + 1)) (length want) (length set)
 
 -- the length of the list that a source names, where there are so many inputs and the nodes have these lengths
 abbrev pub named_length : ℕ → List ℕ → Source → ℕ
@@ -35,37 +43,66 @@ named_length inputs lengths source.Input = inputs
 named_length inputs lengths (source.Node number) = slice_index lengths number
 
 -- the length that the rule of a node's kind gives on the lengths of the lists that the node names
-abbrev pub kind_length : ℕ → List ℕ → NodeKind → Option ℕ
-kind_length inputs earlier kind = length_rule (shape_of kind) (map (named_length inputs earlier) (sources_of kind))
+abbrev pub kind_length : ℕ → List ℕ → List ℕ → NodeKind → Option ℕ
+kind_length inputs earlier set kind = length_rule (shape_of set kind) (map (named_length inputs earlier) (sources_of kind))
 
 -- the length, where the lists of a graph then have at most 2097152 entries together
 abbrev pub joined_length : List ℕ → ℕ → Option ℕ
 joined_length earlier own = if nat_le (sum earlier + own) 2097152 then Some own else None
 
--- the length of a node's list behind nodes of these lengths, or None where a rule fails; a node that isn't needed
--- has length 0
-abbrev pub node_length : ℕ → List ℕ → Node → Option ℕ
-node_length inputs earlier node = if node.needed then option_and_then (joined_length earlier) (kind_length inputs earlier node.kind) else Some 0
+-- the length of a node's list behind nodes of these lengths, where the set was learned for the node, or None where a rule
+-- fails; a node that isn't needed has length 0
+abbrev pub node_length : ℕ → List ℕ → List ℕ → Node → Option ℕ
+node_length inputs earlier set node = if node.needed then option_and_then (joined_length earlier) (kind_length inputs earlier set node.kind) else Some 0
 
--- the lengths of the lists of a graph's first nodes, each by its rule on the lengths before it
-pub record FirstLengths (graph : Graph) (lengths : List ℕ) : Type 0 where
+-- the lengths of the lists of a graph's first nodes, each by its rule on the lengths before it, with its learned set
+pub record FirstLengths (graph : Graph) (sets : List (List ℕ)) (lengths : List ℕ) : Type 0 where
   pub within : length lengths ≤ length graph.nodes
-  pub each : (n : ℕ) (node : Node) → n < length lengths → slice_get graph.nodes n ≡ Some node → node_length (length graph.inputs) (take n lengths) node ≡ Some (slice_index lengths n)
+  pub each : (n : ℕ) (node : Node) → n < length lengths → slice_get graph.nodes n ≡ Some node → node_length (length graph.inputs) (take n lengths) (slice_index_or sets n []) node ≡ Some (slice_index lengths n)
 
--- what was learned of a graph has the length of every node's list, and that of the output
+-- what may be learned for a node of this kind: unknowns of a solver, ascending, and nothing for another node
+abbrev pub IsKindSet : NodeKind → List ℕ → Type 0
+IsKindSet (Dense from rows unknowns want) set = IsAscending set × AreUnknowns unknowns set
+IsKindSet kind set = set ≡ []
+
+-- the same, where nothing is learned for a node that isn't needed
+abbrev pub IsSetFor : Node → List ℕ → Type 0
+IsSetFor node set = MatchBool node.needed (IsKindSet node.kind set) (set ≡ [])
+
+-- as many empty sets
+pub record AreEmpty (count : ℕ) (sets : List (List ℕ)) : Type 0 where
+  pub many : length sets ≡ count
+  pub each : (n : ℕ) → slice_index_or sets n [] ≡ []
+
+-- what was learned of a graph has a set for every node, the length of every node's list, and that of the output
 pub record FitsGraph (graph : Graph) (learned : GraphLearned) : Type 0 where
-  pub first : FirstLengths graph learned.lengths
+  pub many : length learned.sets ≡ length graph.nodes
+  pub sets : (n : ℕ) (node : Node) → slice_get graph.nodes n ≡ Some node → IsSetFor node (slice_index_or learned.sets n [])
+  pub first : FirstLengths graph learned.sets learned.lengths
   pub all : length learned.lengths ≡ length graph.nodes
   pub output : learned.output ≡ named_length (length graph.inputs) learned.lengths graph.output
 
--- every node before the n-th has a length, and the rule of the n-th, which is needed, fails
+-- whether the node is a solver whose value is needed
+abbrev pub is_solver : Node → Bool
+is_solver node = node.needed && is_dense node.kind
+
+-- whether some needed node of the graph is a solver
+abbrev pub has_solver : Graph → Bool
+has_solver graph = list_any is_solver graph.nodes
+
+-- the graph with this number has no needed node that is a solver
+abbrev pub IsPlainAt : List Graph → ℕ → Type 0
+IsPlainAt graphs number = (graph : Graph) → slice_get graphs number ≡ Some graph → has_solver graph ≡ false
+
+-- where nothing is learned for any node, every node before the n-th has a length, and the rule of the n-th, which is
+-- needed, fails
 pub record FailsLength (graph : Graph) (n : ℕ) : Type 0 where
   pub lengths : List ℕ
-  pub first : FirstLengths graph lengths
+  pub first : FirstLengths graph [] lengths
   pub before : length lengths ≡ n
   pub node : Node
   pub is_node : slice_get graph.nodes n ≡ Some node
-  pub fails : node_length (length graph.inputs) lengths node ≡ None
+  pub fails : node_length (length graph.inputs) lengths [] node ≡ None
 
 -- what was learned of the first so many graphs of a file, an entry for each in order
 pub record FitsFirst (graphs : List Graph) (learned : List GraphLearned) (count : ℕ) : Type 0 where
@@ -75,6 +112,10 @@ pub record FitsFirst (graphs : List Graph) (learned : List GraphLearned) (count 
 -- what was learned of all graphs of a file
 abbrev pub Fits : List Graph → List GraphLearned → Type 0
 Fits graphs learned = FitsFirst graphs learned (length graphs)
+
+-- the sets that were learned, a list of them a graph
+abbrev pub sets_of : List GraphLearned → List (List (List ℕ))
+sets_of learned = map (λ entry. entry.sets) learned
 
 -- the length of the output of the last graph that was learned
 abbrev pub output_of : Option GraphLearned → ℕ

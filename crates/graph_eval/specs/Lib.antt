@@ -3,3 +3,4 @@ pub mod Fresh
 pub mod GraphValue
 pub mod Learned
 pub mod Reading
+pub mod Systems

@@ -1,15 +1,18 @@
 //! The lists of a graph's nodes at a point.
 
-ghost use Rattle.std.specs.Prelude.{◌≡◌, ℕ, ◌<◌, [], All, Some, IfErr, IfOk, OnOk, length, map};
+ghost use Rattle.std.specs.Prelude.{◌≡◌, ◌<◌, ◌≤◌, All, Some, IfErr, IfOk, OnErr, OnOk, IsTrue, length, map};
 ghost use Rattle.prime_field.specs.Modulus.{value_of};
+ghost use Rattle.prime_field.specs.Residue.{IsPrime};
 ghost use Rattle.graph_file.specs.Sound.{IsGraph, IsKind};
-ghost use Rattle.graph_eval.specs.Evaluated.{NodeAnswers, no_graphs, outcome_of};
+ghost use Rattle.graph_eval.specs.Evaluated.{FitsOutcome, NodeAnswers, no_graphs, outcome_of};
 ghost use Rattle.graph_eval.specs.GraphValue.{GraphMeans, KindFails, KindGives, named};
-ghost use Rattle.graph_eval.specs.Learned.{FitsGraph, kind_length, node_length};
+ghost use Rattle.graph_eval.specs.Learned.{FitsGraph, IsKindSet, IsSetFor, kind_length, node_length};
+ghost use Rattle.graph_eval.specs.Systems.{words_of};
 
 use crate::kinds::{named, write_chained, write_product, write_sum, write_taken, write_values};
 use crate::learned::GraphLearned;
 use crate::outcome::{Cause, Outcome, Singular};
+use crate::systems::{make_room, write_solved};
 use basic_nodes::{matmul, slice};
 use graph_file::{Graph, Node, NodeKind};
 use prime_field::Modulus;
@@ -17,7 +20,8 @@ use ratfun_text::NoMemory;
 use sqlite_items::Items;
 use std::alloc::Global;
 
-/// Writes the list of a node of this kind to `out`, which has its length.
+/// Writes the list of a node of this kind, for which this set was learned, to `out`, which has its length. A system is
+/// solved in `words`.
 ///
 /// # Errors
 ///
@@ -25,16 +29,20 @@ use std::alloc::Global;
 fn write_list(
     m: Modulus,
     kind: &NodeKind,
+    set: &[u32],
     inputs: &[u64],
     lists: &[Items<u64>],
+    words: &mut [u64],
     out: &mut [u64],
 ) -> Result<(), Cause>
     requires sound { IsKind (length inputs.now) (length lists.now) kind.now }
+    requires set { IsKindSet kind.now set.now }
+    requires words { words_of kind.now ≤ length words.old }
     requires residues { All (λ x. x < value_of m) inputs.now }
     requires earlier { All (All (λ x. x < value_of m)) lists.now }
-    requires room { kind_length (length inputs.now) (map length lists.now) kind.now ≡ Some (length out.old) }
-    ensures ok { OnOk result (KindGives (value_of m) no_graphs [] (named inputs.now lists.now) kind.now out.new) }
-    ensures err { IfErr result (KindFails (value_of m) no_graphs [] (named inputs.now lists.now) kind.now) }
+    requires room { kind_length (length inputs.now) (map length lists.now) set.now kind.now ≡ Some (length out.old) }
+    ensures ok { OnOk result (IsPrime (value_of m) → KindGives (value_of m) no_graphs set.now (named inputs.now lists.now) kind.now out.new) }
+    ensures err { IfErr result (λ cause. IsPrime (value_of m) → KindFails (value_of m) no_graphs set.now (named inputs.now lists.now) kind.now cause) }
     ensures residues { OnOk result (All (λ x. x < value_of m) out.new) }
 {
     match kind {
@@ -64,39 +72,65 @@ fn write_list(
             *cols as usize,
             out,
         ),
+        NodeKind::Dense {
+            from,
+            rows,
+            unknowns,
+            want,
+        } => {
+            let list = named(inputs, lists, *from);
+            let (rows, unknowns) = (*rows as usize, *unknowns as usize);
+            if !write_solved(m, rows, unknowns, list, set, want.as_slice(), words, out) {
+                return Err(Cause::System);
+            }
+        }
     }
     Ok(())
 }
 
-/// The list of a node, which is empty where the node isn't needed, or the cause where it is needed and has no value.
-fn node_list(
+/// The list of a node for which this set was learned, which is empty where the node isn't needed, or the cause where it is
+/// needed and has no value. A system is solved in `words`, which grow where there are too few.
+pub(crate) fn node_list(
     alloc: Global,
     m: Modulus,
     node: &Node,
+    set: &[u32],
     own: usize,
     inputs: &[u64],
     lists: &[Items<u64>],
+    words: &mut Vec<u64>,
 ) -> Result<Result<Items<u64>, Cause>, NoMemory>
     requires sound { IsKind (length inputs.now) (length lists.now) node.now.kind }
+    requires set { IsSetFor node.now set.now }
     requires residues { All (λ x. x < value_of m) inputs.now }
     requires earlier { All (All (λ x. x < value_of m)) lists.now }
-    requires room { node_length (length inputs.now) (map length lists.now) node.now ≡ Some own }
-    ensures value { IfOk result (NodeAnswers (value_of m) no_graphs [] (named inputs.now lists.now) node.now) }
+    requires room { node_length (length inputs.now) (map length lists.now) set.now node.now ≡ Some own }
+    ensures value { IfOk result (λ list. IsPrime (value_of m) → NodeAnswers (value_of m) no_graphs set.now (named inputs.now lists.now) node.now list) }
+    ensures needed { IfOk result (λ list. OnErr list (IsTrue node.now.needed)) }
     ensures length { IfOk result (λ list. IfOk list (λ xs. length xs ≡ own)) }
     ensures residues { IfOk result (λ list. IfOk list (All (λ x. x < value_of m))) }
 {
     if !node.needed {
         return Ok(Ok(Items::new(alloc)));
     }
+    make_room(&node.kind, words)?;
     let mut list = vec![in alloc; 0; own]?;
-    match write_list(m, &node.kind, inputs, lists, list.as_mut_slice()) {
+    match write_list(
+        m,
+        &node.kind,
+        set,
+        inputs,
+        lists,
+        words.as_mut_slice(),
+        list.as_mut_slice(),
+    ) {
         Ok(()) => Ok(Ok(Items::from_vec(list))),
         Err(cause) => Ok(Err(cause)),
     }
 }
 
-/// Writes what a graph that calls no other gives at these inputs, whose nodes' lists have these lengths. The lists
-/// are kept in `lists`.
+/// Writes what a graph that calls no other gives at these inputs, whose nodes' sets and lists' lengths were learned. The
+/// lists are kept in `lists`, and systems are solved in `words`.
 pub(crate) fn evaluate(
     alloc: Global,
     m: Modulus,
@@ -104,6 +138,7 @@ pub(crate) fn evaluate(
     learned: &GraphLearned,
     inputs: &[u64],
     lists: &mut Vec<Items<u64>>,
+    words: &mut Vec<u64>,
     out: &mut [u64],
 ) -> Result<Outcome, NoMemory>
     requires sound { IsGraph graph.now }
@@ -111,13 +146,17 @@ pub(crate) fn evaluate(
     requires residues { All (λ x. x < value_of m) inputs.now }
     requires entries { length inputs.now ≡ length graph.now.inputs }
     requires room { length out.old ≡ learned.now.output }
-    ensures { IfOk result (λ outcome. GraphMeans (value_of m) no_graphs [] graph.now inputs.now (outcome_of out.new outcome)) }
+    ensures value { IfOk result (λ outcome. IsPrime (value_of m)
+        → GraphMeans (value_of m) no_graphs learned.now.sets graph.now inputs.now (outcome_of out.new outcome)) }
+    ensures fits { IfOk result (FitsOutcome (value_of m) (Some graph.now) out.new) }
 {
     lists.clear();
     let lengths = learned.lengths.as_slice();
+    let sets = learned.sets.as_slice();
     for (place, node) in graph.nodes.as_slice().iter().enumerate() {
         let own = lengths[place] as usize;
-        match node_list(alloc, m, node, own, inputs, lists.as_slice())? {
+        let set = sets[place].as_slice();
+        match node_list(alloc, m, node, set, own, inputs, lists.as_slice(), words)? {
             Ok(list) => lists.push(list)?,
             Err(cause) => {
                 return Ok(Outcome::Singular(Singular {

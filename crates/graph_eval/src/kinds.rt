@@ -5,7 +5,8 @@ ghost use Rattle.prime_field.specs.Modulus.{value_of};
 ghost use Rattle.ratfun_text.specs.Value.{greatest, value};
 ghost use Rattle.basic_nodes.specs.Plain.{chained, matrix_product, multiplied, sliced, summed, taken};
 ghost use Rattle.graph_eval.specs.Evaluated.{IsAmong};
-ghost use Rattle.graph_eval.specs.GraphValue.{all_of, named};
+ghost use Rattle.graph_file.specs.Line.{all_of};
+ghost use Rattle.graph_eval.specs.GraphValue.{named};
 ghost use Rattle.graph_eval.specs.Reading.{HasLength, IsEntry};
 
 use crate::outcome::Cause;

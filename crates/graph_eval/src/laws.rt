@@ -1,20 +1,50 @@
 //! Laws of the definitions that the contracts speak of. Each function does nothing; its contract is the law.
 
-ghost use Rattle.std.specs.Prelude.{◌≡◌, ℕ, List};
+ghost use Rattle.std.specs.Prelude.{◌≡◌, ℕ, ◌<◌, false, List, []};
+ghost use Rattle.elim_core.specs.Kept.{HasSolution};
 ghost use Rattle.graph_file.specs.declared.graph.Graph.{Graph};
+ghost use Rattle.graph_eval.specs.Fresh.{IsFreshAt, IsMeasuredAt};
 ghost use Rattle.graph_eval.specs.GraphValue.{GraphValue, Outcome};
-ghost use Rattle.graph_eval.specs.Learned.{FailsLength, FitsGraph};
+ghost use Rattle.graph_eval.specs.Learned.{FailsLength, FitsGraph, IsPlainAt, has_solver};
+ghost use Rattle.graph_eval.specs.Systems.{IsOwnSet, IsSolved};
+ghost use Rattle.graph_eval.specs.declared.fresh.Fresh.{Fresh};
 ghost use Rattle.graph_eval.specs.declared.learned.GraphLearned.{GraphLearned};
 
 /// A graph has at most one outcome at a point: its value, or one singular node with one cause.
 pub fn one_outcome()
-    ensures { (m : ℕ) (graphs : List Graph) (learned : List (List (List ℕ))) (number : ℕ) (inputs : List ℕ) (o p : Outcome) → GraphValue m graphs learned number inputs o → GraphValue m graphs learned number inputs p → o ≡ p }
+    ensures { (m : ℕ) (graphs : List Graph) (learned : List (List (List ℕ))) (number : ℕ) (inputs : List ℕ) (one other : Outcome) → 1 < m
+        → GraphValue m graphs learned number inputs one → GraphValue m graphs learned number inputs other → one ≡ other }
 {}
 
-/// The lists of a graph have one length each and its output has one, or one node's length breaks a rule.
+/// With the same sets, the lists of a graph have one length each and its output has one. Where nothing is learned for any
+/// node, either they have lengths or one node's length breaks a rule.
 pub fn one_length()
-    ensures lengths { (graph : Graph) (a b : GraphLearned) → FitsGraph graph a → FitsGraph graph b → a.lengths ≡ b.lengths }
-    ensures output { (graph : Graph) (a b : GraphLearned) → FitsGraph graph a → FitsGraph graph b → a.output ≡ b.output }
-    ensures either { (graph : Graph) (a : GraphLearned) (n : ℕ) → FitsGraph graph a → FailsLength graph n → ⊥ }
+    ensures lengths { (graph : Graph) (a b : GraphLearned) → a.sets ≡ b.sets → FitsGraph graph a → FitsGraph graph b → a.lengths ≡ b.lengths }
+    ensures output { (graph : Graph) (a b : GraphLearned) → a.sets ≡ b.sets → FitsGraph graph a → FitsGraph graph b → a.output ≡ b.output }
+    ensures sets { (graph : Graph) (a b : GraphLearned) → has_solver graph ≡ false → FitsGraph graph a → FitsGraph graph b → a.sets ≡ b.sets }
+    ensures either { (graph : Graph) (a : GraphLearned) (n : ℕ) → has_solver graph ≡ false → FitsGraph graph a → FailsLength graph n → ⊥ }
     ensures node { (graph : Graph) (n k : ℕ) → FailsLength graph n → FailsLength graph k → n ≡ k }
+{}
+
+/// The length rules alone have at most one answer for a graph none of whose needed nodes is a solver.
+pub fn one_measured()
+    ensures { (graphs : List Graph) (number : ℕ) (a b : Fresh) → IsPlainAt graphs number → IsMeasuredAt graphs number a → IsMeasuredAt graphs number b → a ≡ b }
+{}
+
+/// A system's values over a set are one list at most.
+pub fn one_solved()
+    ensures { (m unknowns : ℕ) (rows : List (List ℕ)) (set want a b : List ℕ) → 1 < m
+        → IsSolved m unknowns rows set want a → IsSolved m unknowns rows set want b → a ≡ b }
+{}
+
+/// A system has one set of its own at most, which is empty where the system has no solution.
+pub fn one_set()
+    ensures once { (m unknowns : ℕ) (rows : List (List ℕ)) (a b : List ℕ) → IsOwnSet m unknowns rows a → IsOwnSet m unknowns rows b → a ≡ b }
+    ensures none { (m unknowns : ℕ) (rows : List (List ℕ)) → (HasSolution m unknowns rows → ⊥) → IsOwnSet m unknowns rows [] }
+{}
+
+/// Learning a graph at a point has at most one answer, as long as the same was learned of the graphs before it.
+pub fn one_fresh()
+    ensures { (m : ℕ) (graphs : List Graph) (learned : List (List (List ℕ))) (number : ℕ) (inputs : List ℕ) (a b : Fresh) → 1 < m
+        → IsFreshAt m graphs learned number inputs a → IsFreshAt m graphs learned number inputs b → a ≡ b }
 {}

@@ -11,12 +11,15 @@ use std::marker::Model;
 /// What was learned of one graph.
 #[derive(Debug, Drop)]
 pub struct GraphLearned {
-    /// The number of the point at which the graph was learned; none where its lengths need no point.
+    /// The number of the point at which the graph was learned; none where it needs no point, or isn't known yet.
     pub point: Option<u32>,
     /// The length of the graph's output.
     pub output: u32,
     /// The length of each node's list, 0 for a node that isn't needed.
     pub lengths: Items<u32>,
+    /// The unknowns by which each node's system tells the others, ascending, counted from 1; none for a node that isn't
+    /// needed or solves no system.
+    pub sets: Items<Items<u32>>,
 }
 
 /// What was learned of a file's graphs, which contracts see as the list of its entries, one a graph in the order of

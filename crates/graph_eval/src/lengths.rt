@@ -1,15 +1,16 @@
 //! The lengths of a graph's lists, by the rules of its nodes alone.
 
-ghost use Rattle.std.specs.Prelude.{◌≡◌, ◌+◌, ◌<◌, ◌≤◌, All, IfOk, IfSome, length, map, sum};
+ghost use Rattle.std.specs.Prelude.{◌≡◌, ◌+◌, ◌<◌, ◌≤◌, [], false, All, IfOk, IfSome, None, length, map, sum, vec_len};
 ghost use Rattle.graph_file.specs.Sound.{IsGraph, IsKind, IsNode};
 ghost use Rattle.graph_eval.specs.Evaluated.{IsAmong};
-ghost use Rattle.graph_eval.specs.Fresh.{IsFresh, IsFreshAt};
-ghost use Rattle.graph_eval.specs.Learned.{FitsFirst, kind_length, named_length, node_length};
+ghost use Rattle.graph_eval.specs.Fresh.{IsMeasured, IsMeasuredAt};
+ghost use Rattle.graph_eval.specs.Learned.{AreEmpty, FitsFirst, IsKindSet, IsPlainAt, IsSetFor, has_solver, is_solver, kind_length, named_length, node_length};
 
+use crate::fresh::Fresh;
 use crate::learned::{GraphLearned, Learned};
-use crate::shapes::{shape_of, sources_of};
+use crate::shapes::shape_of;
 use basic_nodes::length_of;
-use graph_file::{Graph, Job, Node, NodeKind, Source};
+use graph_file::{Graph, Job, Node, NodeKind, Source, sources_of};
 use ratfun_text::NoMemory;
 use sqlite_items::Items;
 use std::alloc::Global;
@@ -17,23 +18,36 @@ use std::alloc::Global;
 /// The most entries that the lists of a graph may have together.
 const ALL_LISTS: usize = 2_097_152;
 
-/// What learning a graph gives.
-#[derive(Debug, Drop)]
-pub enum Fresh {
-    /// What was learned.
-    Learned(GraphLearned),
-    /// The node, by its place counted from 0, whose length breaks a rule.
-    Length { node: u32 },
-}
-
 /// The length of the list that a source names.
-fn named_length(inputs: usize, lengths: &[u32], source: Source) -> usize
+pub(crate) fn named_length(inputs: usize, lengths: &[u32], source: Source) -> usize
     requires { IsAmong (length lengths.now) source }
     ensures { result ≡ named_length inputs lengths.now source }
 {
     match source {
         Source::Input => inputs,
         Source::Node(place) => lengths[place as usize] as usize,
+    }
+}
+
+/// What was learned of a graph whose nodes have these lengths and sets, without the number of its point.
+pub(crate) fn learned_of(
+    inputs: usize,
+    output: Source,
+    lengths: Vec<u32>,
+    sets: Items<Items<u32>>,
+) -> GraphLearned
+    requires there { IsAmong (vec_len lengths) output }
+    requires few { inputs ≤ 8 }
+    ensures point { result.point ≡ None }
+    ensures output { result.output ≡ named_length inputs lengths.items output }
+    ensures lengths { result.lengths ≡ lengths.items }
+    ensures sets { result.sets ≡ sets }
+{
+    GraphLearned {
+        point: None,
+        output: named_length(inputs, lengths.as_slice(), output) as u32,
+        lengths: Items::from_vec(lengths),
+        sets,
     }
 }
 
@@ -54,77 +68,105 @@ fn named_lengths(
     Ok(named)
 }
 
-/// The length of the list of a needed node of this kind behind lists of these lengths, or nothing where a rule fails.
+/// The length of the list of a needed node of this kind behind lists of these lengths, where this set was learned for it,
+/// or nothing where a rule fails.
 fn kind_length(
     alloc: Global,
     kind: &NodeKind,
+    set: &[u32],
     inputs: usize,
     earlier: &[u32],
 ) -> Result<Option<usize>, NoMemory>
     requires sound { IsKind inputs (length earlier.now) kind.now }
+    requires set { IsKindSet kind.now set.now }
     requires few { inputs ≤ 8 }
     requires within { All (λ n. n ≤ 262144) earlier.now }
-    ensures value { IfOk result (λ own. own ≡ kind_length inputs earlier.now kind.now) }
+    ensures value { IfOk result (λ own. own ≡ kind_length inputs earlier.now set.now kind.now) }
     ensures limit { IfOk result (λ own. IfSome own (λ n. n ≤ 262144)) }
 {
-    let shape = shape_of(alloc, kind)?;
+    let shape = shape_of(alloc, kind, set)?;
     let sources = sources_of(alloc, kind)?;
     let lengths = named_lengths(alloc, inputs, earlier, sources.as_slice())?;
     Ok(length_of(&shape, lengths.as_slice()).ok())
 }
 
-/// The length of the list of a node behind lists of these lengths, 0 where it isn't needed, or nothing where a rule
-/// fails. The lists so far have `total` entries together.
-fn node_length(
+/// The length of the list of a node behind lists of these lengths, where this set was learned for it: 0 where the node
+/// isn't needed, or nothing where a rule fails. The lists so far have `total` entries together.
+pub(crate) fn node_length(
     alloc: Global,
     node: &Node,
+    set: &[u32],
     inputs: usize,
     earlier: &[u32],
     total: usize,
 ) -> Result<Option<u32>, NoMemory>
     requires sound { IsKind inputs (length earlier.now) node.now.kind }
+    requires set { IsSetFor node.now set.now }
     requires few { inputs ≤ 8 }
     requires within { All (λ n. n ≤ 262144) earlier.now }
     requires total { total ≡ sum earlier.now }
     requires bound { total ≤ 2097152 }
-    ensures value { IfOk result (λ own. own ≡ node_length inputs earlier.now node.now) }
+    ensures value { IfOk result (λ own. own ≡ node_length inputs earlier.now set.now node.now) }
     ensures limit { IfOk result (λ own. IfSome own (λ n. n ≤ 262144)) }
     ensures bound { IfOk result (λ own. IfSome own (λ n. total + n ≤ 2097152)) }
 {
     if !node.needed {
         return Ok(Some(0));
     }
-    match kind_length(alloc, &node.kind, inputs, earlier)? {
+    match kind_length(alloc, &node.kind, set, inputs, earlier)? {
         Some(own) if total + own <= ALL_LISTS => Ok(Some(own as u32)),
         _ => Ok(None),
     }
 }
 
-/// The lengths of a graph's lists, or the node whose length breaks a rule.
+/// Whether the node is a solver whose value is needed.
+pub fn is_solver(node: &Node) -> bool
+    ensures { result ≡ is_solver node.now }
+{
+    node.needed && matches!(node.kind, NodeKind::Dense { .. })
+}
+
+/// Whether some needed node of the graph is a solver, so that the graph is learned at a point.
+pub fn has_solver(graph: &Graph) -> bool
+    ensures { result ≡ has_solver graph.now }
+{
+    graph.nodes.as_slice().iter().any(is_solver)
+}
+
+/// An empty set for each of so many nodes.
+fn no_sets(alloc: Global, count: usize) -> Result<Items<Items<u32>>, NoMemory>
+    ensures { IfOk result (AreEmpty count) }
+{
+    let mut sets = Items::new(alloc);
+    for _node in 0..count {
+        sets.push(Items::new(alloc))?;
+    }
+    Ok(sets)
+}
+
+/// The lengths of a graph's lists, none of whose needed nodes is a solver, or the node whose length breaks a rule.
 fn graph_lengths(alloc: Global, graph: &Graph) -> Result<Fresh, NoMemory>
-    requires { IsGraph graph.now }
-    ensures { IfOk result (IsFresh graph.now) }
+    requires sound { IsGraph graph.now }
+    requires plain { has_solver graph.now ≡ false }
+    ensures { IfOk result (IsMeasured graph.now) }
 {
     let inputs = graph.inputs.len();
     let mut lengths = Vec::new(alloc);
     let mut total = 0;
     for (place, node) in graph.nodes.as_slice().iter().enumerate() {
-        let Some(own) = node_length(alloc, node, inputs, lengths.as_slice(), total)? else {
+        let Some(own) = node_length(alloc, node, &[], inputs, lengths.as_slice(), total)? else {
             return Ok(Fresh::Length { node: place as u32 });
         };
         lengths.push(own)?;
         total += own as usize;
     }
-    let output = named_length(inputs, lengths.as_slice(), graph.output);
-    Ok(Fresh::Learned(GraphLearned {
-        point: None,
-        output: output as u32,
-        lengths: Items::from_vec(lengths),
-    }))
+    let sets = no_sets(alloc, graph.nodes.len())?;
+    Ok(Fresh::Learned(learned_of(inputs, graph.output, lengths, sets)))
 }
 
 /// The lengths of the lists of the graph with this number, counted from 0, by the rules of its nodes alone; what was
-/// learned of the graphs before it is known.
+/// learned of the graphs before it is known. The graph has no solver whose value is needed ([`has_solver`]), and the
+/// answer is never [`Fresh::Singular`].
 pub fn lengths_of(
     alloc: Global,
     job: &Job,
@@ -133,7 +175,8 @@ pub fn lengths_of(
 ) -> Result<Fresh, NoMemory>
     requires there { graph < length job.now.graphs }
     requires before { FitsFirst job.now.graphs learned.now graph }
-    ensures { IfOk result (IsFreshAt job.now.graphs graph) }
+    requires plain { IsPlainAt job.now.graphs graph }
+    ensures { IfOk result (IsMeasuredAt job.now.graphs graph) }
 {
     // No kind of node rests on another graph, so what was learned of earlier ones isn't read.
     let _earlier = learned;

@@ -8,6 +8,9 @@ pub enum Cause {
     /// A divisor is no unit.
     #[error("a divisor is no unit")]
     Division,
+    /// A system of equations doesn't tell its unknowns by those that were learned.
+    #[error("a system doesn't tell its unknowns by those that were learned")]
+    System,
 }
 
 /// The first node of a graph, by its place counted from 0, that has no value at a point.

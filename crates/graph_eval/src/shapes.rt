@@ -2,7 +2,6 @@
 
 ghost use Rattle.std.specs.Prelude.{◌≡◌, IfOk, map};
 ghost use Rattle.ratfun_text.specs.Value.{greatest};
-ghost use Rattle.graph_file.specs.Needed.{sources_of};
 ghost use Rattle.graph_eval.specs.Learned.{greatest_among, shape_of};
 
 use basic_nodes::NodeShape;
@@ -32,9 +31,9 @@ fn positions_of(alloc: Global, parts: &[(Source, u32)]) -> Result<Vec<usize>, No
         .collect(alloc)
 }
 
-/// The kind of a node with the numbers that its length depends on.
-pub(crate) fn shape_of(alloc: Global, kind: &NodeKind) -> Result<NodeShape, NoMemory>
-    ensures { IfOk result (λ shape. shape ≡ shape_of kind.now) }
+/// The kind of a node with the numbers that its length depends on, where this set was learned for it.
+pub(crate) fn shape_of(alloc: Global, kind: &NodeKind, set: &[u32]) -> Result<NodeShape, NoMemory>
+    ensures { IfOk result (λ shape. shape ≡ shape_of set.now kind.now) }
 {
     Ok(match kind {
         NodeKind::Eval { exprs, .. } => NodeShape::Eval {
@@ -61,27 +60,15 @@ pub(crate) fn shape_of(alloc: Global, kind: &NodeKind) -> Result<NodeShape, NoMe
             mid: *mid as usize,
             cols: *cols as usize,
         },
+        NodeKind::Dense {
+            rows,
+            unknowns,
+            want,
+            ..
+        } => NodeShape::Solver {
+            entries: *rows as usize * (*unknowns as usize + 1),
+            wanted: want.len(),
+            independent: set.len(),
+        },
     })
-}
-
-/// The sources of a node that takes entries.
-fn part_sources(alloc: Global, parts: &[(Source, u32)]) -> Result<Vec<Source>, NoMemory>
-    ensures { IfOk result (λ sources. sources.items ≡ map (λ part. part.0) parts.now) }
-{
-    parts.iter().map(|(from, _)| *from).collect(alloc)
-}
-
-/// The lists that a node reads, in their order.
-pub(crate) fn sources_of(alloc: Global, kind: &NodeKind) -> Result<Vec<Source>, NoMemory>
-    ensures { IfOk result (λ sources. sources.items ≡ sources_of kind.now) }
-{
-    match kind {
-        NodeKind::Eval { from, .. } => Ok(vec![in alloc; *from]?),
-        NodeKind::Take { parts } => Ok(part_sources(alloc, parts.as_slice())?),
-        NodeKind::Slice { from, .. } => Ok(vec![in alloc; *from]?),
-        NodeKind::Chain { parts } => Ok(Vec::from_slice(alloc, parts.as_slice())?),
-        NodeKind::Sum { parts } => Ok(Vec::from_slice(alloc, parts.as_slice())?),
-        NodeKind::Product { parts } => Ok(Vec::from_slice(alloc, parts.as_slice())?),
-        NodeKind::Matmul { left, right, .. } => Ok(vec![in alloc; *left, *right]?),
-    }
 }

@@ -1,10 +1,13 @@
 //! Whole files, from their text to the values of their main graphs.
 
-ghost use Rattle.std.specs.Prelude.{IfOk};
+ghost use Rattle.std.specs.Prelude.{◌≡◌, IfOk, length, slice_get};
+ghost use Rattle.graph_eval.specs.Evaluated.{HasInputs};
+ghost use Rattle.graph_eval.specs.GraphValue.{main_number};
 ghost use Rattle.graph_eval.specs.Learned.{Fits};
 
 use super::*;
 use graph_file::{Job, Need, read_graphs};
+use poly_maps::Point;
 use prime_field::Modulus;
 use std::alloc::Global;
 use std::test::Fail;
@@ -17,36 +20,48 @@ enum Told {
     Length(u32),
 }
 
-/// What is learned of all graphs of a job, or the node whose length breaks a rule.
-fn learn(alloc: Global, job: &Job) -> Result<Result<Learned, u32>, Fail>
+/// What is learned of a job's only graph at a point, or what the point told in its place.
+fn learn(alloc: Global, job: &Job, point: &Point) -> Result<Result<Learned, Told>, Fail>
+    requires one { length job.now.graphs ≡ 1 }
+    requires entries { HasInputs (slice_get job.now.graphs (main_number job.now.graphs)) point.now }
     ensures { IfOk result (λ answer. IfOk answer (Fits job.now.graphs)) }
 {
-    let count = u32::try_from(job.graphs.len())?;
     let mut learned = Learned::new(alloc);
-    for graph in 0..count {
-        match lengths_of(alloc, job, &learned, graph)? {
-            Fresh::Learned(entry) => learned.add(entry)?,
-            Fresh::Length { node } => return Ok(Err(node)),
-        }
+    match fresh_point(alloc, job, &learned, 0, Modulus::first(), point)? {
+        Fresh::Learned(entry) => learned.add(entry)?,
+        Fresh::Singular(singular) => return Ok(Err(Told::Singular(singular))),
+        Fresh::Length { node } => return Ok(Err(Told::Length(node))),
     }
     Ok(Ok(learned))
 }
 
-/// What the file with this text tells at its first point, modulo 2^61 - 1.
-fn told_by(rt: &HostRuntime, text: &str) -> Result<Told, Fail> {
-    let alloc = rt.alloc();
+/// The job of a file with one graph.
+fn job_of(alloc: Global, text: &str) -> Result<Job, Fail>
+    ensures { IfOk result (λ job. length job.graphs ≡ 1) }
+{
     let bytes = text.as_bytes();
     if bytes.len() > 16_777_216 {
         return Err(Fail::from("a long text"));
     }
     let job = read_graphs(alloc, bytes, Need::Points)?;
-    let learned = match learn(alloc, &job)? {
+    if job.graphs.len() != 1 {
+        return Err(Fail::from("more than one graph"));
+    }
+    Ok(job)
+}
+
+/// What the file with this text, learned at its first point, tells at its last point, modulo 2^61 - 1.
+fn told_by(rt: &HostRuntime, text: &str) -> Result<Told, Fail> {
+    let alloc = rt.alloc();
+    let job = job_of(alloc, text)?;
+    let points = job.points.as_slice();
+    let learned = match learn(alloc, &job, points.first().ok_or("no point")?)? {
         Ok(learned) => learned,
-        Err(node) => return Ok(Told::Length(node)),
+        Err(told) => return Ok(told),
     };
     let mut worker = Worker::new(alloc, &job, &learned)?;
     let mut out = vec![in alloc; 0; learned.outputs()]?;
-    let point = job.points.as_slice().first().ok_or("no point")?;
+    let point = points.last().ok_or("no point")?;
     let m = Modulus::first();
     match worker.eval_point(alloc, &job, &learned, m, point, out.as_mut_slice())? {
         Outcome::Defined => Ok(Told::Values(out)),
@@ -112,18 +127,80 @@ fn the_output_may_be_the_input(rt: HostRuntime) -> Result<(), Fail> {
     Ok(())
 }
 
+#[test]
+fn a_system_tells_its_unknowns_in_the_wanted_order(rt: HostRuntime) -> Result<(), Fail> {
+    let text =
+        "flow 1\ngraph main\ninput x y\nnode a eval input = 1;1;x;1;0-1;y\nnode s dense a 2 2 want 2 1\noutput s\npoint 3 5\n";
+    let want = Told::Values(Vec::from_slice(rt.alloc(), &[2305843009213693950, 4])?);
+    assert_eq!(rt; told_by(&rt, text)?, want);
+    Ok(())
+}
+
+#[test]
+fn a_row_redundant_where_it_is_learned_decides_later(rt: HostRuntime) -> Result<(), Fail> {
+    let text =
+        "flow 1\ngraph main\ninput x\nnode a eval input = x;x;1;1\nnode s dense a 2 1\noutput s\npoint 5\npoint 0\n";
+    let want = Told::Values(Vec::from_slice(rt.alloc(), &[1])?);
+    assert_eq!(rt; told_by(&rt, text)?, want);
+    Ok(())
+}
+
+#[test]
+fn a_system_without_a_solution_is_singular(rt: HostRuntime) -> Result<(), Fail> {
+    let text =
+        "flow 1\ngraph main\ninput x\nnode a eval input = x;1;2*x;2\nnode s dense a 2 1\noutput s\npoint 2\npoint 0\n";
+    let want = Told::Singular(Singular {
+        node: 1,
+        cause: Cause::System,
+    });
+    assert_eq!(rt; told_by(&rt, text)?, want);
+    Ok(())
+}
+
+#[test]
+fn one_row_of_two_unknowns_is_told_by_the_second(rt: HostRuntime) -> Result<(), Fail> {
+    let alloc = rt.alloc();
+    let job = job_of(
+        alloc,
+        "flow 1\ngraph main\ninput x\nnode a eval input = 1;2;x\nnode s dense a 1 2\noutput s\npoint 7\n",
+    )?;
+    let point = job.points.as_slice().first().ok_or("no point")?;
+    let Ok(learned) = learn(alloc, &job, point)? else {
+        return Err(Fail::from("nothing is learned"));
+    };
+    let entry = learned.graph(0);
+    let set = entry.sets.as_slice().last().ok_or("no set")?;
+    assert_eq!(rt; set.as_slice().first(), Some(&2));
+    assert_eq!(rt; (set.len(), entry.output), (1, 4));
+    Ok(())
+}
+
+#[test]
+fn lengths_alone_are_learned_of_a_plain_graph(rt: HostRuntime) -> Result<(), Fail> {
+    let alloc = rt.alloc();
+    let job = job_of(
+        alloc,
+        "flow 1\ngraph main\ninput x\nnode a eval input = x;1\nnode c chain a a\noutput c\npoint 7\n",
+    )?;
+    if has_solver(main_graph(&job)) {
+        return Err(Fail::from("a solver"));
+    }
+    let Fresh::Learned(entry) = lengths_of(alloc, &job, &Learned::new(alloc), 0)? else {
+        return Err(Fail::from("a wrong length"));
+    };
+    assert_eq!(rt; entry.output, 4);
+    Ok(())
+}
+
 fn may_be_shared<T: Send + Sync>(_value: &T) {}
 
 #[test]
 fn what_was_learned_and_a_worker_go_to_other_threads(rt: HostRuntime) -> Result<(), Fail> {
     let alloc = rt.alloc();
     let text = "flow 1\ngraph main\ninput x\nnode r eval input = x\noutput r\npoint 3\n";
-    let bytes = text.as_bytes();
-    if bytes.len() > 16_777_216 {
-        return Err(Fail::from("a long text"));
-    }
-    let job = read_graphs(alloc, bytes, Need::Points)?;
-    if let Ok(learned) = learn(alloc, &job)? {
+    let job = job_of(alloc, text)?;
+    let point = job.points.as_slice().first().ok_or("no point")?;
+    if let Ok(learned) = learn(alloc, &job, point)? {
         may_be_shared(&Worker::new(alloc, &job, &learned)?);
         may_be_shared(&learned);
     }

@@ -1,10 +1,11 @@
 //! A worker, which evaluates a job's main graph at one point after another.
 
-ghost use Rattle.std.specs.Prelude.{◌≡◌, [], Some, IfOk, length, slice_get};
+ghost use Rattle.std.specs.Prelude.{◌≡◌, Some, IfOk, length, slice_get};
 ghost use Rattle.prime_field.specs.Modulus.{value_of};
-ghost use Rattle.graph_eval.specs.Evaluated.{HasInputs, outcome_of};
+ghost use Rattle.prime_field.specs.Residue.{IsPrime};
+ghost use Rattle.graph_eval.specs.Evaluated.{FitsOutcome, HasInputs, outcome_of};
 ghost use Rattle.graph_eval.specs.GraphValue.{GraphValue, main_number};
-ghost use Rattle.graph_eval.specs.Learned.{Fits, outputs_of};
+ghost use Rattle.graph_eval.specs.Learned.{Fits, outputs_of, sets_of};
 
 use crate::evaluation::evaluate;
 use crate::learned::Learned;
@@ -16,10 +17,12 @@ use ratfun_text::NoMemory;
 use sqlite_items::Items;
 use std::alloc::Global;
 
-/// Evaluates a job's main graph at points. What it keeps changes no answer: it is memory for the nodes' lists.
+/// Evaluates a job's main graph at points. What it keeps changes no answer: it is memory for the nodes' lists and their
+/// systems.
 #[derive(Debug, Drop)]
 pub struct Worker {
     lists: Vec<Items<u64>>,
+    words: Vec<u64>,
 }
 
 /// The main graph of a job, which is the last of its graphs.
@@ -38,11 +41,14 @@ impl Worker {
         // Each list's length is read where its node is evaluated.
         let _learned = learned;
         let lists = Vec::with_capacity(alloc, main_graph(job).nodes.len())?;
-        Ok(Worker { lists })
+        Ok(Worker {
+            lists,
+            words: Vec::new(alloc),
+        })
     }
 
     /// Writes what the main graph gives at a point to `out`, which has a place for each entry of the output, or tells
-    /// the first node that has no value there.
+    /// the first node that has no value there. A system is solved over the unknowns that were learned for its node.
     pub fn eval_point(
         &mut self,
         alloc: Global,
@@ -55,7 +61,9 @@ impl Worker {
         requires fits { Fits job.now.graphs learned.now }
         requires entries { HasInputs (slice_get job.now.graphs (main_number job.now.graphs)) point.now }
         requires room { length out.old ≡ outputs_of learned.now }
-        ensures { IfOk result (λ outcome. GraphValue (value_of m) job.now.graphs [] (main_number job.now.graphs) point.now (outcome_of out.new outcome)) }
+        ensures value { IfOk result (λ outcome. IsPrime (value_of m)
+            → GraphValue (value_of m) job.now.graphs (sets_of learned.now) (main_number job.now.graphs) point.now (outcome_of out.new outcome)) }
+        ensures fits { IfOk result (FitsOutcome (value_of m) (slice_get job.now.graphs (main_number job.now.graphs)) out.new) }
     {
         let graph = main_graph(job);
         let inputs = point.entries();
@@ -66,6 +74,7 @@ impl Worker {
             learned.last(),
             inputs,
             &mut self.lists,
+            &mut self.words,
             out,
         )?)
     }

@@ -1,5 +1,8 @@
 -- Answers that are gathered one after the other.
-use Rattle.std.proofs.Common.{◌≡◌, ◌<◌, ◌+◌, ℕ, refl, sym, ap, ◌∙◌, List, [], ◌∷◌, ◌++◌, length, map, drop, Option, Some, None, append_assoc, append-nil, add-one, option_map}
+use Rattle.std.proofs.Common.{◌≡◌, ◌<◌, ◌+◌, ℕ, refl, sym, ap, ◌∙◌, List, [], ◌∷◌, ◌++◌, length, map, drop, Option, Some, None, append_assoc, append-nil, add-one, option_map, arith}
+use Rattle.std.specs.Borrow.{Bor}
+use Rattle.std.proofs.Math.ListN.{get_or-map}
+use Rattle.std.proofs.lemmas.List.{length-map}
 use Rattle.std.proofs.Math.Seq.{drop-cons}
 use Rattle.graph_file.specs.Line.{all_of}
 
@@ -33,3 +36,22 @@ module _ {X A : Type 0} (ask : X → Option A) (xs : List X) (i : ℕ) (d : X) (
 
   pub asked-missing : (whole : Option (List A)) (front : List A) → whole ≡ onto front (all_of (map ask (drop i xs))) → ask (lib.ListN.get_or xs i d) ≡ None → whole ≡ None
   asked-missing whole front so_far missing = all_of-missing whole front _ _ (so_far ∙ ap (λ l. onto front (all_of l)) opened) missing
+
+-- the same where the questions are words
+abbrev texts : List (Bor (List ℕ)) → List (List ℕ)
+texts words = map (λ word. word.now) words
+
+module _ {A : Type 0} (ask : List ℕ → Option A) (words : List (Bor (List ℕ))) (i : ℕ) (d : Bor (List ℕ)) (within : i < length words) (front : List A) (so_far : all_of (map ask (texts words)) ≡ onto front (all_of (map ask (drop i (texts words))))) where
+  inside : i < length (texts words)
+  inside = omega (arith, length-map words (λ word. word.now))
+
+  at : ask (lib.ListN.get_or (texts words) i d.now) ≡ ask (lib.ListN.get_or words i d).now
+  at = ap ask (get_or-map (λ word. word.now) words i d)
+
+  pub word-there : (new : List A) (a : A) → ask (lib.ListN.get_or words i d).now ≡ Some a → new ≡ front ++ a ∷ [] → all_of (map ask (texts words)) ≡ onto new (all_of (map ask (drop (i + 1) (texts words))))
+  word-there new a there grown =
+      asked-there ask (texts words) i d.now inside _ front a so_far (at ∙ there)
+      ∙ ap (λ l. onto l (all_of (map ask (drop (i + 1) (texts words))))) (sym grown)
+
+  pub word-missing : ask (lib.ListN.get_or words i d).now ≡ None → None ≡ all_of (map ask (texts words))
+  word-missing missing = sym (asked-missing ask (texts words) i d.now inside _ front so_far (at ∙ missing))

@@ -6,13 +6,15 @@ use Rattle.std.proofs.lemmas.List.{length-drop}
 use Rattle.std.proofs.lemmas.List.Splits.{length-slice_split}
 use Rattle.std.proofs.lemmas.List.Sums.{count_by-le-length}
 use Rattle.ratfun_text.specs.Bytes.{is_blank, is_name, trim_start}
-use Rattle.graph_file.specs.Formed.{IsFormed, IsWhole}
+use Rattle.graph_file.specs.Formed.{IsFormed, IsWant, IsWhole}
 use Rattle.graph_file.specs.Lines.{after_word, after_words, is_plain, words}
 use Rattle.graph_file.specs.declared.line.Line.{Line}
 use Rattle.graph_file.specs.declared.line.Line.TheVariants.{Flow, Graph, Input, Node, Point}
 use Rattle.graph_file.specs.declared.line.Statement.{Statement}
 use Rattle.graph_file.specs.declared.line.Statement.TheVariants.{Eval, Take, Matmul}
-use Rattle.graph_file.specs.Line.{all_of, entry_of, size_of, flow_line, graph_line, input_line, output_line, point_line, eval_node, take_node, part_before, parts_of, slice_node, slice_from, chain_node, sum_node, product_node, matmul_node, sides_of, statement_of, node_line, line_of_words, line_of}
+use Rattle.graph_file.specs.declared.line.Want.{Want}
+use Rattle.graph_file.specs.declared.line.Want.TheVariants.{Numbers}
+use Rattle.graph_file.specs.Line.{all_of, entry_of, size_of, flow_line, graph_line, input_line, output_line, point_line, eval_node, take_node, part_before, parts_of, slice_node, slice_from, chain_node, sum_node, product_node, matmul_node, sides_of, numbers_wanted, want_of, dense_from, dense_node, statement_of, node_line, line_of_words, line_of}
 
 chosen : {A : Type 0} (P : A → Type 0) (b : Bool) (x y : Option A) → IfSome x P → IfSome y P → IfSome (cond b x y) P
 chosen P true x y first second = first
@@ -73,6 +75,35 @@ module _ (n : ℕ) where
   matmuls (a ∷ []) = tt
   matmuls (a ∷ b ∷ sides) = made (IsWhole n) (λ (s : ℕ × ℕ × ℕ). Matmul a b s.0 s.1 s.2) (sides_of sides) (λ s. tt)
 
+  counted : (answers : Option (List ℕ)) (a : ℕ) (later : Option (List ℕ)) → answers ≡ option_map (λ l. a ∷ l) later → IfSome (option_map Numbers answers) IsWant
+  counted None a later is = tt
+  counted (Some l) a None is = cc
+  counted (Some l) a (Some m) is = let same : l ≡ a ∷ m = cc in omega (arith, ap length same)
+
+  numbered : (first : Option ℕ) (later : List (Option ℕ)) → IfSome (option_map Numbers (all_of (first ∷ later))) IsWant
+  numbered None later = tt
+  numbered (Some a) later = counted _ a (all_of later) refl
+
+  behind_want : (words : List (List ℕ)) → IfSome (numbers_wanted words) IsWant
+  behind_want [] = tt
+  behind_want (number ∷ numbers) = numbered (size_of number) (map size_of numbers)
+
+  wants : (words : List (List ℕ)) → IfSome (want_of words) IsWant
+  wants [] = tt
+  wants (first ∷ later) = tested IsWant (bytes_eq first (codes "want")) (numbers_wanted later) (λ is. behind_want later)
+
+  systems : (from : List ℕ) (rows unknowns : Option ℕ) (want : Option Want) → IfSome want IsWant → IfSome (dense_from from rows unknowns want) (IsWhole n)
+  systems from None unknowns want is = tt
+  systems from (Some rows) None want is = tt
+  systems from (Some rows) (Some unknowns) None is = tt
+  systems from (Some rows) (Some unknowns) (Some want) is = is
+
+  dense_nodes : (words : List (List ℕ)) → IfSome (dense_node words) (IsWhole n)
+  dense_nodes [] = tt
+  dense_nodes (a ∷ []) = tt
+  dense_nodes (a ∷ b ∷ []) = tt
+  dense_nodes (a ∷ b ∷ c ∷ later) = systems a (size_of b) (size_of c) (want_of later) (wants later)
+
   named : (name : List ℕ) (statement : Option Statement) → is_name name ≡ true → IfSome statement (IsWhole n) → IfSome (option_map (Node name) statement) (IsFormed n)
   named name None is whole = tt
   named name (Some statement) is whole = (is, whole)
@@ -119,7 +150,8 @@ statements line kind words =
     (chosen (IsWhole n) (bytes_eq kind (codes "chain")) _ _ (chains n words)
     (chosen (IsWhole n) (bytes_eq kind (codes "sum")) _ _ (sums n words)
     (chosen (IsWhole n) (bytes_eq kind (codes "product")) _ _ (products n words)
-    (chosen (IsWhole n) (bytes_eq kind (codes "matmul")) _ None (matmuls n words) tt))))))
+    (chosen (IsWhole n) (bytes_eq kind (codes "matmul")) _ _ (matmuls n words)
+    (chosen (IsWhole n) (bytes_eq kind (codes "dense")) _ None (dense_nodes n words) tt)))))))
 
 nodes : (line : List ℕ) (words : List (List ℕ)) → IfSome (node_line line words) (IsFormed (length line + 1))
 nodes line [] = tt

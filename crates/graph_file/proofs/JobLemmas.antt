@@ -62,6 +62,7 @@ module _ (reader : Reader) (nodes : List Node) (names_are : names_of nodes ≡ n
       let sound : IsNode (length (variables_of reader.variables)) k marked.was = reader.sound.are_nodes k marked.was marked.there in
       record {
         named = subst (λ n. Rattle.std.proofs.Common.IsTrue (Rattle.ratfun_text.specs.Bytes.is_name n)) marked.name_is sound.named;
+        short = subst (λ (n : List ℕ). length n ≤ 32) marked.name_is sound.short;
         no_input = λ same. sound.no_input (marked.name_is ∙ same);
         kind = subst (λ (c : NodeKind). Rattle.graph_file.specs.Sound.IsKind (length (variables_of reader.variables)) k c) marked.kind_is sound.kind;
       }
@@ -82,10 +83,11 @@ module _ (reader : Reader) (nodes : List Node) (names_are : names_of nodes ≡ n
         let told : Some node.needed ≡ Some true = sym (marked k node at) ∙ set in
         cc
 
-    pub graph-sound : has_output reader.stood ≡ true → reader.output ≡ Some output → IsGraph made
-    graph-sound ended output_is =
+    pub graph-sound : has_output reader.stood ≡ true → reader.name ≡ Some name → reader.output ≡ Some output → IsGraph made
+    graph-sound ended name_is output_is =
         let variables : AreVariables (variables_of reader.variables) = reader.sound.inputs (input_with_output reader.stood ended) in
         record {
+          short = reader.sound.short name name_is;
           some = variables.some;
           few = variables.few;
           variables = variables.are_names;
@@ -101,16 +103,17 @@ module _ (reader : Reader) (nodes : List Node) (names_are : names_of nodes ≡ n
           output = λ k is. let below : k < length reader.nodes.items = reader.sound.output_is k (output_is ∙ ap (λ s. Some s) is) in omega (arith, below, count_is);
         }
 
-    pub job-sound : (graphs : List Graph) → graphs ≡ made ∷ [] → has_output reader.stood ≡ true → reader.output ≡ Some output → IsJob graphs reader.points
-    job-sound graphs only ended output_is = subst (λ (l : List Graph). IsJob l reader.points) (sym only) (record {
+    pub job-sound : (graphs : List Graph) → graphs ≡ made ∷ [] → has_output reader.stood ≡ true → reader.name ≡ Some name → reader.output ≡ Some output → IsJob graphs reader.points
+    job-sound graphs only ended name_is output_is = subst (λ (l : List Graph). IsJob l reader.points) (sym only) (record {
       main = omega arith;
       bounded = omega arith;
+      few_points = reader.sound.few_points;
       graph = only_graph;
       entries = λ k point graph at_point at_graph. let same : Some made ≡ Some graph = at_graph in let equal : made ≡ graph = cc in reader.sound.entries k point at_point ∙ ap (λ (g : Graph). length g.inputs) equal;
     })
       where
         only_graph : (k : ℕ) (graph : Graph) → slice_get (made ∷ []) k ≡ Some graph → IsGraph graph
-        only_graph zero graph at = let same : Some made ≡ Some graph = at in let equal : made ≡ graph = cc in subst IsGraph equal (graph-sound ended output_is)
+        only_graph zero graph at = let same : Some made ≡ Some graph = at in let equal : made ≡ graph = cc in subst IsGraph equal (graph-sound ended name_is output_is)
         only_graph (suc k) graph at = cc
 
     pub says-job : (graphs : List Graph) → graphs ≡ made ∷ [] → reader.name ≡ Some name → reader.output ≡ Some output → (bytes : List ℕ) → IsRead (said (lines bytes)) reader → Says bytes (record { graphs = graphs; points = reader.points })

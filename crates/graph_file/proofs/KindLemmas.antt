@@ -1,27 +1,30 @@
 -- What a node computes is sound.
 use Rattle.std.proofs.Common.{◌≡◌, ◌≢◌, ◌<◌, ◌≤◌, ◌+◌, ◌*◌, ℕ, zero, suc, Bool, true, false, not, ◌&&◌, cond, refl, sym, ap, subst, ◌∙◌, List, [], ◌∷◌, ◌++◌, length, map, Option, Some, None, arith, option_map, bytes_eq, codes, nat_le, All, get_or, position}
 use Rattle.std.specs.Option.{option_and_then}
-use Rattle.std.specs.List.{slice_get, list_all, list_any, AllZip}
+use Rattle.std.specs.List.{slice_get, slice_index, list_all, list_any, AllZip, range_with_len}
 use Rattle.std.proofs.lemmas.Bool.Decides.{nat_tests}
+use Rattle.std.proofs.lemmas.List.FromFn.{length-range_with_len, get_or-range_with_len}
 use Rattle.std.proofs.lemmas.List.Quantifiers.{position-Some}
-use Rattle.std.proofs.lemmas.Option.{get_or_from_slice_get, slice_get_within}
+use Rattle.std.proofs.lemmas.Option.{get_or_from_slice_get, slice_get-get_or, slice_get_within}
 use Rattle.ratfun_text.specs.Grammar.{IsTreeOf}
 use Rattle.ratfun_text.specs.Names.{last_argument}
 use Rattle.ratfun_text.specs.Value.{greatest}
 use Rattle.ratfun_text.specs.declared.expr.Expr.{Expr}
 use Rattle.ratfun_text.specs.declared.names.Names.TheVariants.{Listed, Numbered}
-use Rattle.graph_file.specs.Faults.{are_sides, is_in_range, is_known, is_position, is_product, is_range, lists_in, names_in, names_over}
-use Rattle.graph_file.specs.Formed.{IsWhole}
+use Rattle.graph_file.specs.Faults.{are_sides, is_counted, is_in_range, is_known, is_position, is_product, is_range, is_system, is_want, lists_in, names_in, names_over}
+use Rattle.graph_file.specs.Formed.{IsWant, IsWhole}
 use Rattle.graph_file.specs.Line.{all_of, texts_in}
-use Rattle.graph_file.specs.Says.{AreTrees, kind_of, part_named, source_named}
-use Rattle.graph_file.specs.Sound.{AreSides, IsKind, IsPosition}
+use Rattle.graph_file.specs.Says.{AreTrees, kind_of, part_named, source_named, wanted}
+use Rattle.graph_file.specs.Sound.{AreSides, IsDense, IsKind, IsPosition}
 use Rattle.graph_file.specs.declared.graph.NodeKind.{NodeKind}
 use Rattle.graph_file.specs.declared.graph.NodeKind.TheVariants as node
 use Rattle.graph_file.specs.declared.graph.Source.{Source}
 use Rattle.graph_file.specs.declared.graph.Source.TheVariants as source
 use Rattle.graph_file.specs.declared.line.Line.TheVariants as line
 use Rattle.graph_file.specs.declared.line.Statement.{Statement}
-use Rattle.graph_file.specs.declared.line.Statement.TheVariants.{Eval, Take, Slice, Chain, Sum, Product, Matmul}
+use Rattle.graph_file.specs.declared.line.Statement.TheVariants.{Eval, Take, Slice, Chain, Sum, Product, Matmul, Dense}
+use Rattle.graph_file.specs.declared.line.Want.{Want}
+use Rattle.graph_file.specs.declared.line.Want.TheVariants.{Every, Numbers}
 use Rattle.graph_file.proofs.Passes.{both, list_all-at}
 use Rattle.graph_file.proofs.TableLemmas.{is_some-position}
 
@@ -133,6 +136,7 @@ module _ (variables number : ℕ) where
     positions = λ parts is. cc;
     range = λ f first last is. cc;
     sides = λ left right rows mid cols is. cc;
+    dense = λ f rows unknowns want is. cc;
   }
 
   take_sound : (parts : List (Source × ℕ)) → ((k : ℕ) (part : Source × ℕ) → slice_get parts k ≡ Some part → (j : ℕ) → part.0 ≡ source.Node j → j < number) → 1 ≤ length parts → ((k : ℕ) (part : Source × ℕ) → slice_get parts k ≡ Some part → IsPosition part.1) → IsKind variables number (node.Take parts)
@@ -144,6 +148,7 @@ module _ (variables number : ℕ) where
     positions = λ ps is k part at. let told : node.Take parts ≡ node.Take ps = is in let same : parts ≡ ps = cc in positions k part (ap (λ (l : List (Source × ℕ)). slice_get l k) same ∙ at);
     range = λ f first last is. cc;
     sides = λ left right rows mid cols is. cc;
+    dense = λ f rows unknowns want is. cc;
   }
     where
       by_part : (ps : List (Source × ℕ)) → ((k : ℕ) (part : Source × ℕ) → slice_get ps k ≡ Some part → (j : ℕ) → part.0 ≡ source.Node j → j < number) → (k i : ℕ) → slice_get (map (λ part. part.0) ps) i ≡ Some (source.Node k) → k < number
@@ -168,6 +173,7 @@ module _ (variables number : ℕ) where
         let end : last ≡ b = cc in
         (omega (arith, range.0), omega (arith, range.1), omega (arith, range.2));
     sides = λ left right rows mid cols is. cc;
+    dense = λ f rows unknowns want is. cc;
   }
 
   chain_sound : (parts : List Source) → ((k : ℕ) → ((i : ℕ) × (slice_get parts i ≡ Some (source.Node k))) → k < number) → 1 ≤ length parts → IsKind variables number (node.Chain parts)
@@ -179,6 +185,7 @@ module _ (variables number : ℕ) where
     positions = λ ps is. cc;
     range = λ f a b is. cc;
     sides = λ left right rows mid cols is. cc;
+    dense = λ f rows unknowns want is. cc;
   }
 
   sum_sound : (parts : List Source) → ((k : ℕ) → ((i : ℕ) × (slice_get parts i ≡ Some (source.Node k))) → k < number) → 1 ≤ length parts → IsKind variables number (node.Sum parts)
@@ -190,6 +197,7 @@ module _ (variables number : ℕ) where
     positions = λ ps is. cc;
     range = λ f a b is. cc;
     sides = λ left right rows mid cols is. cc;
+    dense = λ f rows unknowns want is. cc;
   }
 
   product_sound : (parts : List Source) → ((k : ℕ) → ((i : ℕ) × (slice_get parts i ≡ Some (source.Node k))) → k < number) → 1 ≤ length parts → IsKind variables number (node.Product parts)
@@ -201,6 +209,7 @@ module _ (variables number : ℕ) where
     positions = λ ps is. cc;
     range = λ f a b is. cc;
     sides = λ left right rows mid cols is. cc;
+    dense = λ f rows unknowns want is. cc;
   }
 
   matmul_sound : (left right : Source) (rows mid cols : ℕ) → ((k : ℕ) → left ≡ source.Node k → k < number) → ((k : ℕ) → right ≡ source.Node k → k < number) → AreSides rows mid cols → IsKind variables number (node.Matmul left right rows mid cols)
@@ -217,11 +226,29 @@ module _ (variables number : ℕ) where
         let second : mid ≡ b = cc in
         let third : cols ≡ c = cc in
         subst (λ (x : ℕ). AreSides x b c) first (subst (λ (y : ℕ). AreSides rows y c) second (subst (λ (z : ℕ). AreSides rows mid z) third sides));
+    dense = λ f rows unknowns want is. cc;
   }
     where
       by_place : (k i : ℕ) → slice_get (left ∷ right ∷ []) i ≡ Some (source.Node k) → k < number
       by_place k zero at = left_earlier k (let told : Some left ≡ Some (source.Node k) = at in cc)
       by_place k (suc i) at = right_earlier k (only right i (source.Node k) at)
+
+  dense_sound : (from : Source) (rows unknowns : ℕ) (want : List ℕ) → ((k : ℕ) → from ≡ source.Node k → k < number) → IsDense rows unknowns want → IsKind variables number (node.Dense from rows unknowns want)
+  dense_sound from rows unknowns want earlier system = record {
+    earlier = λ k reads. earlier k (only from reads.0 (source.Node k) reads.1);
+    some = λ e. cc;
+    exprs = λ f is. cc;
+    arguments = λ es is. cc;
+    positions = λ parts is. cc;
+    range = λ f a b is. cc;
+    sides = λ left right r m c is. cc;
+    dense = λ f r u w is.
+        let told : node.Dense from rows unknowns want ≡ node.Dense f r u w = is in
+        let first : rows ≡ r = cc in
+        let second : unknowns ≡ u = cc in
+        let third : want ≡ w = cc in
+        subst (λ (x : ℕ). IsDense x u w) first (subst (λ (y : ℕ). IsDense rows y w) second (subst (λ (z : List ℕ). IsDense rows unknowns z) third system));
+  }
 
 -- the question that an answer at a place answers
 record IsAsked {X A : Type 0} (ask : X → Option A) (xs : List X) (k : ℕ) (a : A) : Type 0 where
@@ -274,6 +301,38 @@ product_is rows mid cols e =
       whole = sides_are rows cols three.1;
       left = sides_are rows mid four.1;
       right = sides_are mid cols five.1;
+    }
+
+counted_is : (number most : ℕ) → is_counted number most ≡ true → (1 ≤ number) × (number ≤ most)
+counted_is number most e = let parts : (nat_le 1 number ≡ true) × (nat_le number most ≡ true) = both _ _ e in (grind (arith, nat_tests, parts.0), grind (arith, nat_tests, parts.1))
+
+-- something is wanted, and each wanted number is that of an unknown
+some_wanted : (unknowns : ℕ) (want : Want) → 1 ≤ unknowns → IsWant want → 0 < length (wanted unknowns want)
+some_wanted unknowns Every some is = omega (arith, length-range_with_len 1 unknowns)
+some_wanted unknowns (Numbers numbers) some is = omega arith
+
+wanted_is : (unknowns : ℕ) (want : Want) → is_want unknowns want ≡ true → (i : ℕ) → i < length (wanted unknowns want) → (0 < slice_index (wanted unknowns want) i) × (slice_index (wanted unknowns want) i < unknowns + 1)
+wanted_is unknowns Every e i within =
+    let below : i < unknowns = omega (arith, length-range_with_len 1 unknowns) in
+    let is : slice_index (range_with_len 1 unknowns) i ≡ 1 + i = get_or-range_with_len 1 unknowns i 0 below in
+    (omega (arith, is), omega (arith, is))
+wanted_is unknowns (Numbers numbers) e i within =
+    let counted : (1 ≤ slice_index numbers i) × (slice_index numbers i ≤ unknowns) = counted_is (slice_index numbers i) unknowns (list_all-at (λ number. is_counted number unknowns) numbers e i (slice_index numbers i) (slice_get-get_or numbers i 0 within)) in
+    (omega (arith, counted.0), omega (arith, counted.1))
+
+system_is : (rows unknowns : ℕ) (want : Want) → is_system rows unknowns want ≡ true → IsWant want → IsDense rows unknowns (wanted unknowns want)
+system_is rows unknowns want e is =
+    let two : ((is_counted rows 512 && is_counted unknowns 511) ≡ true) × (is_want unknowns want ≡ true) = both _ _ e in
+    let one : (is_counted rows 512 ≡ true) × (is_counted unknowns 511 ≡ true) = both _ _ two.0 in
+    let height : (1 ≤ rows) × (rows ≤ 512) = counted_is rows 512 one.0 in
+    let width : (1 ≤ unknowns) × (unknowns ≤ 511) = counted_is unknowns 511 one.1 in
+    record {
+      rows_low = height.0;
+      rows_high = height.1;
+      unknowns_low = width.0;
+      unknowns_high = width.1;
+      some = some_wanted unknowns want width.0 is;
+      wanted = wanted_is unknowns want two.1;
     }
 
 -- both lists of a product
@@ -338,6 +397,10 @@ kind_sound names vs exprs name (Matmul left right rows mid cols) kind most e who
     let made : AreMade names (source_named names left) (source_named names right) rows mid cols kind = matmul_made names (source_named names left) (source_named names right) rows mid cols kind e in
     subst (IsKind (length vs) (length names)) made.is
     (matmul_sound (length vs) (length names) made.first made.second rows mid cols (named_earlier names left made.first made.left_is) (named_earlier names right made.second made.right_is) (product_is rows mid cols ranges))
+kind_sound names vs exprs name (Dense from rows unknowns want) kind most e whole ranges trees arguments =
+    let made : IsMade (λ f. node.Dense f rows unknowns (wanted unknowns want)) (source_named names from) kind = made_of (λ f. node.Dense f rows unknowns (wanted unknowns want)) (source_named names from) kind e in
+    subst (IsKind (length vs) (length names)) made.is
+    (dense_sound (length vs) (length names) made.from rows unknowns (wanted unknowns want) (named_earlier names from made.from made.there) (system_is rows unknowns want ranges whole))
 
 -- known lists have their nodes
 option_none : {A B : Type 0} (make : A → B) (o : Option A) → option_map make o ≡ None → o ≡ None
@@ -391,3 +454,4 @@ kind-there names exprs (Product parts) known none = answers-there (source_named 
 kind-there names exprs (Matmul left right rows mid cols) known none =
     let two : (is_known names left ≡ true) × ((is_known names right && true) ≡ true) = both (is_known names left) _ known in
     matmul_none (source_named names left) (source_named names right) rows mid cols none (source-known names left two.0) (source-known names right (both (is_known names right) true two.1).0)
+kind-there names exprs (Dense from rows unknowns want) known none = source-known names from (both _ true known).0 (option_none _ (source_named names from) none)

@@ -1,5 +1,5 @@
 -- What holds of a line with which nothing is wrong, its expressions apart.
-use Rattle.std.proofs.Common.{◌≡◌, ◌≤◌, ℕ, zero, suc, Bool, true, false, not, ◌&&◌, ◌||◌, cond, refl, sym, ap, subst, List, [], ◌∷◌, ◌++◌, length, Option, Some, None, arith, bytes_eq, nat_le, ◌==◌}
+use Rattle.std.proofs.Common.{◌≡◌, ◌<◌, ◌≤◌, ℕ, zero, suc, Bool, true, false, not, ◌&&◌, ◌||◌, cond, refl, sym, ap, subst, List, [], ◌∷◌, ◌++◌, length, Option, Some, None, arith, bytes_eq, nat_le, nat_lt, ◌==◌}
 use Rattle.std.specs.List.{slice_get, slice_index, list_any, list_all}
 use Rattle.std.proofs.lemmas.Bool.Decides.{nat_tests}
 use Rattle.std.proofs.lemmas.Option.{slice_get-get_or}
@@ -181,6 +181,17 @@ distinct_at before (head ∷ later) fresh (suc i) zero name first second =
 distinct_at before (head ∷ later) fresh (suc i) (suc j) name first second =
     ap suc (distinct_at (before ++ head ∷ []) later (both _ (are_new (before ++ head ∷ []) later) fresh).1 i j name first second)
 
+pub at_most_32 : (name : List ℕ) → is_short name ≡ true → length name ≤ 32
+at_most_32 name short = let within : nat_le (length name) 32 ≡ true = short in grind (arith, nat_tests)
+
+-- the name of a `graph` line is short
+pub graph-passed : (stood : Last) (variables : ℕ) (nodes : List (List ℕ)) (points : ℕ) (name : List ℕ) → Passes stood variables nodes points (Graph name) → length name ≤ 32
+graph-passed stood variables nodes points name pass = at_most_32 name (not_false _ pass.limits)
+
+-- there is room for the point of a `point` line
+pub room-passed : (stood : Last) (variables : ℕ) (nodes : List (List ℕ)) (points : ℕ) (entries : List ℕ) → Passes stood variables nodes points (Point entries) → points < 65536
+room-passed stood variables nodes points entries pass = let within : nat_lt points 65536 ≡ true = not_false _ pass.limits in grind (arith, nat_tests)
+
 -- the names of an `input` line are variables
 pub variables-passed : (stood : Last) (variables : ℕ) (nodes : List (List ℕ)) (points : ℕ) (names : List (List ℕ)) → Passes stood variables nodes points (Input names) → list_all is_name names ≡ true → 1 ≤ length names → AreVariables names
 variables-passed stood variables nodes points names pass are some =
@@ -191,6 +202,7 @@ variables-passed stood variables nodes points names pass are some =
       few = grind (arith, nat_tests);
       are_names = record {
         named = λ k name at. list_all-at is_name names are k name at;
+        short = λ k name at. at_most_32 name (list_all-at is_short names (both _ _ limits).0 k name at);
         distinct = distinct_at [] names (not_false _ pass.is_new);
       };
     }

@@ -79,6 +79,7 @@ IsSound-first variables names nodes points no_variables no_names no_nodes no_poi
   listed = no_variables ∙ ap (λ v. Listed (variables_of v)) (sym no_variables);
   few = omega (arith, ap (λ v. length (variables_of v)) no_variables);
   has_graph = λ e. cc;
+  short = λ given is. cc;
   inputs = λ e. cc;
   ended = λ e. cc;
   no_node = λ e. no_nodes;
@@ -88,6 +89,7 @@ IsSound-first variables names nodes points no_variables no_names no_nodes no_poi
   are_nodes = λ k node at. absurd (nothing_at nodes k node no_nodes at);
   distinct = λ i j name at. absurd (nothing_at names i name no_names at);
   output_is = λ k is. cc;
+  few_points = omega (arith, ap length no_points);
   entries = λ k point at. absurd (nothing_at points k point no_points at);
 }
 
@@ -95,6 +97,7 @@ module _ (stood : Last) (name : Option (List ℕ)) (variables : Names) (names : 
   pub IsSound-flow : has_input stood ≡ false → IsSound last.Flow name variables names nodes output points
   IsSound-flow fresh = record {
     has_graph = λ e. cc;
+    short = sound.short;
     inputs = λ e. cc;
     listed = sound.listed;
     few = sound.few;
@@ -106,12 +109,14 @@ module _ (stood : Last) (name : Option (List ℕ)) (variables : Names) (names : 
     are_nodes = sound.are_nodes;
     distinct = sound.distinct;
     output_is = sound.output_is;
+    few_points = sound.few_points;
     entries = sound.entries;
   }
 
-  pub IsSound-graph : (given : List ℕ) → has_input stood ≡ false → IsSound last.Graph (Some given) variables names nodes output points
-  IsSound-graph given fresh = record {
+  pub IsSound-graph : (given : List ℕ) → has_input stood ≡ false → length given ≤ 32 → IsSound last.Graph (Some given) variables names nodes output points
+  IsSound-graph given fresh short = record {
     has_graph = λ e is. cc;
+    short = λ name is. let told : Some given ≡ Some name = is in let same : given ≡ name = cc in subst (λ (n : List ℕ). length n ≤ 32) same short;
     inputs = λ e. cc;
     listed = sound.listed;
     few = sound.few;
@@ -123,12 +128,14 @@ module _ (stood : Last) (name : Option (List ℕ)) (variables : Names) (names : 
     are_nodes = sound.are_nodes;
     distinct = sound.distinct;
     output_is = sound.output_is;
+    few_points = sound.few_points;
     entries = sound.entries;
   }
 
   pub IsSound-input : (given : List (List ℕ)) → has_name stood ≡ true → has_input stood ≡ false → AreVariables given → IsSound last.Input name (Listed given) names nodes output points
   IsSound-input given has_graph fresh variables_are = record {
     has_graph = λ e. sound.has_graph has_graph;
+    short = sound.short;
     inputs = λ e. variables_are;
     listed = refl;
     few = variables_are.few;
@@ -140,6 +147,7 @@ module _ (stood : Last) (name : Option (List ℕ)) (variables : Names) (names : 
     are_nodes = λ k node at. absurd (nothing_at nodes k node (sound.no_node fresh) at);
     distinct = sound.distinct;
     output_is = sound.output_is;
+    few_points = sound.few_points;
     entries = λ k point at. absurd (nothing_at points k point (sound.no_point fresh) at);
   }
 
@@ -148,6 +156,7 @@ module _ (stood : Last) (name : Option (List ℕ)) (variables : Names) (names : 
       let P : List (List ℕ) → List Node → Type 0 = λ ns ms. IsSound last.Node name variables ns ms output points in
       let whole : P (names ++ node.name ∷ []) (nodes ++ node ∷ []) = record {
         has_graph = λ e. sound.has_graph (named_with_input stood inputs);
+        short = sound.short;
         inputs = λ e. sound.inputs inputs;
         listed = sound.listed;
         few = sound.few;
@@ -162,6 +171,7 @@ module _ (stood : Last) (name : Option (List ℕ)) (variables : Names) (names : 
             (at_push nodes node k other at);
         distinct = AreDistinct-push names node.name sound.distinct fresh;
         output_is = λ k is. let below : k < length nodes = sound.output_is k is in omega (arith, length-append nodes (node ∷ []));
+        few_points = sound.few_points;
         entries = sound.entries;
       }
       in
@@ -170,6 +180,7 @@ module _ (stood : Last) (name : Option (List ℕ)) (variables : Names) (names : 
   pub IsSound-output : (given : Source) → has_input stood ≡ true → ((k : ℕ) → given ≡ source.Node k → k < length nodes) → IsSound last.Output name variables names nodes (Some given) points
   IsSound-output given inputs within = record {
     has_graph = λ e. sound.has_graph (named_with_input stood inputs);
+    short = sound.short;
     inputs = λ e. sound.inputs inputs;
     listed = sound.listed;
     few = sound.few;
@@ -181,14 +192,16 @@ module _ (stood : Last) (name : Option (List ℕ)) (variables : Names) (names : 
     are_nodes = sound.are_nodes;
     distinct = sound.distinct;
     output_is = λ k is. within k (let told : Some given ≡ Some (source.Node k) = is in cc);
+    few_points = sound.few_points;
     entries = sound.entries;
   }
 
-  pub IsSound-point : (entries : List ℕ) (points' : List (List ℕ)) → has_output stood ≡ true → length entries ≡ length (variables_of variables) → points' ≡ points ++ entries ∷ [] → IsSound last.Point name variables names nodes output points'
-  IsSound-point entries points' has_end fits more =
+  pub IsSound-point : (entries : List ℕ) (points' : List (List ℕ)) → has_output stood ≡ true → length points < 65536 → length entries ≡ length (variables_of variables) → points' ≡ points ++ entries ∷ [] → IsSound last.Point name variables names nodes output points'
+  IsSound-point entries points' has_end few fits more =
       let inputs : has_input stood ≡ true = input_with_output stood has_end in
       let whole : IsSound last.Point name variables names nodes output (points ++ entries ∷ []) = record {
         has_graph = λ e. sound.has_graph (named_with_input stood inputs);
+        short = sound.short;
         inputs = λ e. sound.inputs inputs;
         listed = sound.listed;
         few = sound.few;
@@ -200,6 +213,7 @@ module _ (stood : Last) (name : Option (List ℕ)) (variables : Names) (names : 
         are_nodes = sound.are_nodes;
         distinct = sound.distinct;
         output_is = sound.output_is;
+        few_points = omega (arith, few, length-append points (entries ∷ []));
         entries = λ k point at. ⊎_elim
             (λ (before : slice_get points k ≡ Some point). sound.entries k point before)
             (λ (here : (k ≡ length points) × (entries ≡ point)). ap length (sym here.1) ∙ fits)

@@ -26,7 +26,7 @@ use Rattle.graph_file.specs.Read.{IsRead, IsReadOn}
 use Rattle.graph_file.specs.Says.{AreTrees, IsKindOf, kind_of, source_named}
 use Rattle.graph_file.specs.Sound.{IsKind, IsNode}
 use Rattle.graph_file.proofs.KindLemmas.{kind-there, kind_sound, source-known}
-use Rattle.graph_file.proofs.Passes.{Passes, both, neither, not_false, passes}
+use Rattle.graph_file.proofs.Passes.{Passes, at_most_32, both, neither, not_false, passes}
 
 -- nothing is wrong with a line, its expressions apart, where the reader stands
 abbrev pub Passed : Reader → Line → Type 0
@@ -71,6 +71,7 @@ module _ (reader : Reader) (name : List ℕ) (statement : Statement) (pass : Pas
       let sound : IsKind (length vs) (length reader.table.names) computed = kind_sound reader.table.names vs exprs name statement computed formed.0 is formed.1.1 ranges listed_trees listed_arguments in
       record {
         named = formed.1.0;
+        short = at_most_32 name (both (is_short name) _ (both _ (is_in_range statement) limits).0).0;
         no_input = no_input;
         kind = subst (λ (n : ℕ). IsKind (length vs) n computed) (names_count reader) sound;
       }

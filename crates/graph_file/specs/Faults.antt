@@ -13,7 +13,9 @@ use Rattle.graph_file.specs.declared.line.Last.TheVariants as last
 use Rattle.graph_file.specs.declared.line.Line.{Line}
 use Rattle.graph_file.specs.declared.line.Line.TheVariants.{Flow, Graph, Input, Node, Output, Point}
 use Rattle.graph_file.specs.declared.line.Statement.{Statement}
-use Rattle.graph_file.specs.declared.line.Statement.TheVariants.{Eval, Take, Slice, Chain, Sum, Product, Matmul}
+use Rattle.graph_file.specs.declared.line.Statement.TheVariants.{Eval, Take, Slice, Chain, Sum, Product, Matmul, Dense}
+use Rattle.graph_file.specs.declared.line.Want.{Want}
+use Rattle.graph_file.specs.declared.line.Want.TheVariants.{Every, Numbers}
 use Rattle.graph_file.specs.Line.{texts_in}
 
 -- which kind of line stood last
@@ -107,6 +109,7 @@ lists_in (Chain parts) = parts
 lists_in (Sum parts) = parts
 lists_in (Product parts) = parts
 lists_in (Matmul left right rows mid cols) = left ∷ right ∷ []
+lists_in (Dense from rows unknowns want) = from ∷ []
 
 -- a list is neither `input` nor an earlier node's
 abbrev pub is_unknown_node : List (List ℕ) → Line → Bool
@@ -136,11 +139,25 @@ is_range first last = is_position first && is_position last && nat_le first last
 abbrev pub is_product : ℕ → ℕ → ℕ → Bool
 is_product rows mid cols = is_position rows && is_position mid && is_position cols && are_sides rows cols && are_sides rows mid && are_sides mid cols
 
+-- a number that counts from 1
+abbrev pub is_counted : ℕ → ℕ → Bool
+is_counted number most = nat_le 1 number && nat_le number most
+
+-- each wanted number is that of an unknown
+abbrev pub is_want : ℕ → Want → Bool
+is_want unknowns Every = true
+is_want unknowns (Numbers numbers) = list_all (λ number. is_counted number unknowns) numbers
+
+-- at most 512 equations in at most 511 unknowns
+abbrev pub is_system : ℕ → ℕ → Want → Bool
+is_system rows unknowns want = is_counted rows 512 && is_counted unknowns 511 && is_want unknowns want
+
 -- the numbers of a node are in their ranges
 abbrev pub is_in_range : Statement → Bool
 is_in_range (Take parts) = list_all (λ part. is_position part.1) parts
 is_in_range (Slice from first last) = is_range first last
 is_in_range (Matmul left right rows mid cols) = is_product rows mid cols
+is_in_range (Dense from rows unknowns want) = is_system rows unknowns want
 is_in_range _ = true
 
 -- a name that a line gives has at most 32 bytes

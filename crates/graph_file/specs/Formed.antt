@@ -5,7 +5,14 @@ use Rattle.ratfun_text.specs.Bytes.{is_name}
 use Rattle.graph_file.specs.declared.line.Line.{Line}
 use Rattle.graph_file.specs.declared.line.Line.TheVariants.{Flow, Graph, Input, Node, Output, Point}
 use Rattle.graph_file.specs.declared.line.Statement.{Statement}
-use Rattle.graph_file.specs.declared.line.Statement.TheVariants.{Eval, Take, Slice, Chain, Sum, Product, Matmul}
+use Rattle.graph_file.specs.declared.line.Statement.TheVariants.{Eval, Take, Slice, Chain, Sum, Product, Matmul, Dense}
+use Rattle.graph_file.specs.declared.line.Want.{Want}
+use Rattle.graph_file.specs.declared.line.Want.TheVariants.{Every, Numbers}
+
+-- something is wanted
+abbrev pub IsWant : Want → Type 0
+IsWant Every = Unit {0}
+IsWant (Numbers numbers) = 1 ≤ length numbers
 
 -- there is something in each list, and there are at most so many expressions
 abbrev pub IsWhole : ℕ → Statement → Type 0
@@ -16,6 +23,7 @@ IsWhole most (Chain parts) = 1 ≤ length parts
 IsWhole most (Sum parts) = 1 ≤ length parts
 IsWhole most (Product parts) = 1 ≤ length parts
 IsWhole most (Matmul left right rows mid cols) = Unit {0}
+IsWhole most (Dense from rows unknowns want) = IsWant want
 
 -- the names of variables and nodes are names
 abbrev pub IsFormed : ℕ → Line → Type 0

@@ -6,7 +6,9 @@ use Rattle.graph_file.specs.Lines.{is_plain, words, after_words}
 use Rattle.graph_file.specs.declared.line.Line.{Line}
 use Rattle.graph_file.specs.declared.line.Line.TheVariants.{Flow, Graph, Input, Node, Output, Point}
 use Rattle.graph_file.specs.declared.line.Statement.{Statement}
-use Rattle.graph_file.specs.declared.line.Statement.TheVariants.{Eval, Take, Slice, Chain, Sum, Product, Matmul}
+use Rattle.graph_file.specs.declared.line.Statement.TheVariants.{Eval, Take, Slice, Chain, Sum, Product, Matmul, Dense}
+use Rattle.graph_file.specs.declared.line.Want.{Want}
+use Rattle.graph_file.specs.declared.line.Want.TheVariants.{Every, Numbers}
 
 -- all of the answers, where each is there
 abbrev pub all_of : {A : Type 0} → List (Option A) → Option (List A)
@@ -18,7 +20,7 @@ all_of (Some answer ∷ later) = option_map (λ answers. answer ∷ answers) (al
 abbrev pub entry_of : List ℕ → Option ℕ
 entry_of word = option_map (λ n. min n (2 ^ 64 - 1)) (number_of word)
 
--- a position or a number of rows or columns: 2^32 - 1 stands for every greater number too
+-- a position, a number of rows, columns or unknowns, or the number of an unknown: 2^32 - 1 stands for every greater number too
 abbrev pub size_of : List ℕ → Option ℕ
 size_of word = option_map (λ n. min n (2 ^ 32 - 1)) (number_of word)
 
@@ -103,6 +105,24 @@ abbrev pub matmul_node : List (List ℕ) → Option Statement
 matmul_node (left ∷ right ∷ sides) = option_map (λ sides. Matmul left right sides.0 sides.1 sides.2) (sides_of sides)
 matmul_node _ = None
 
+-- `want NUM ..`, of which these are the words behind `want`
+abbrev pub numbers_wanted : List (List ℕ) → Option Want
+numbers_wanted [] = None
+numbers_wanted (number ∷ numbers) = option_map Numbers (all_of (map size_of (number ∷ numbers)))
+
+-- the unknowns that are wanted: `want NUM ..`, or nothing for every unknown
+abbrev pub want_of : List (List ℕ) → Option Want
+want_of [] = Some Every
+want_of (first ∷ later) = if bytes_eq first (codes "want") then numbers_wanted later else None
+
+abbrev pub dense_from : List ℕ → Option ℕ → Option ℕ → Option Want → Option Statement
+dense_from from rows unknowns want = option_and_then (λ rows. option_and_then (λ unknowns. option_map (λ want. Dense from rows unknowns want) want) unknowns) rows
+
+-- `dense LIST NUM NUM`, and then nothing or `want NUM ..`
+abbrev pub dense_node : List (List ℕ) → Option Statement
+dense_node (from ∷ rows ∷ unknowns ∷ later) = dense_from from (size_of rows) (size_of unknowns) (want_of later)
+dense_node _ = None
+
 -- what a `node` line says of its node, from the word for its kind on
 abbrev pub statement_of : List ℕ → List ℕ → List (List ℕ) → Option Statement
 statement_of line kind arguments =
@@ -112,7 +132,8 @@ statement_of line kind arguments =
     if bytes_eq kind (codes "chain") then chain_node arguments else
     if bytes_eq kind (codes "sum") then sum_node arguments else
     if bytes_eq kind (codes "product") then product_node arguments else
-    if bytes_eq kind (codes "matmul") then matmul_node arguments else None
+    if bytes_eq kind (codes "matmul") then matmul_node arguments else
+    if bytes_eq kind (codes "dense") then dense_node arguments else None
 
 -- `node NAME KIND ..`
 abbrev pub node_line : List ℕ → List (List ℕ) → Option Line

@@ -32,7 +32,7 @@ has_input last.Node = true
 has_input last.Output = true
 has_input last.Point = true
 
--- 1 to 8 distinct names
+-- 1 to 8 distinct names of at most 32 bytes
 pub record AreVariables (names : List (List ℕ)) : Type 0 where
   pub some : 1 ≤ length names
   pub few : length names ≤ 8
@@ -45,6 +45,7 @@ AreDistinct names = (i j : ℕ) (name : List ℕ) → slice_get names i ≡ Some
 -- what is kept fits together, and is what a job may have
 pub record IsSound (stood : Last) (name : Option (List ℕ)) (variables : Names) (names : List (List ℕ)) (nodes : List Node) (output : Option Source) (points : List (List ℕ)) : Type 0 where
   pub has_graph : has_name stood ≡ true → name ≢ None
+  pub short : (given : List ℕ) → name ≡ Some given → length given ≤ 32
   pub inputs : has_input stood ≡ true → AreVariables (variables_of variables)
   pub listed : variables ≡ Listed (variables_of variables)
   pub few : length (variables_of variables) ≤ 8
@@ -56,4 +57,5 @@ pub record IsSound (stood : Last) (name : Option (List ℕ)) (variables : Names)
   pub are_nodes : (k : ℕ) (node : Node) → slice_get nodes k ≡ Some node → IsNode (length (variables_of variables)) k node
   pub distinct : AreDistinct names
   pub output_is : (k : ℕ) → output ≡ Some (source.Node k) → k < length nodes
+  pub few_points : length points ≤ 65536
   pub entries : (k : ℕ) (point : List ℕ) → slice_get points k ≡ Some point → length point ≡ length (variables_of variables)

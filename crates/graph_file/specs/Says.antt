@@ -1,6 +1,6 @@
 -- What a file says, in which nothing is wrong.
 use Rattle.std.specs.Prelude.{ℕ, ◌≡◌, ◌↔◌, IsTrue, if◌then◌else◌, List, [], ◌∷◌, ◌++◌, map, position, Option, Some, None, option_and_then, option_map, bytes_eq, codes, slice_get}
-use Rattle.std.specs.List.{AllZip}
+use Rattle.std.specs.List.{AllZip, range_with_len}
 use Rattle.ratfun_text.specs.Grammar.{IsTreeOf}
 use Rattle.ratfun_text.specs.declared.expr.Expr.{Expr}
 use Rattle.ratfun_text.specs.declared.names.Names.{Names}
@@ -15,7 +15,9 @@ use Rattle.graph_file.specs.declared.job.Job.{Job}
 use Rattle.graph_file.specs.declared.line.Line.{Line}
 use Rattle.graph_file.specs.declared.line.Line.TheVariants as line
 use Rattle.graph_file.specs.declared.line.Statement.{Statement}
-use Rattle.graph_file.specs.declared.line.Statement.TheVariants.{Eval, Take, Slice, Chain, Sum, Product, Matmul}
+use Rattle.graph_file.specs.declared.line.Statement.TheVariants.{Eval, Take, Slice, Chain, Sum, Product, Matmul, Dense}
+use Rattle.graph_file.specs.declared.line.Want.{Want}
+use Rattle.graph_file.specs.declared.line.Want.TheVariants.{Every, Numbers}
 use Rattle.graph_file.specs.Faults.{names_in, node_names_in, points_in, variables_in}
 use Rattle.graph_file.specs.File.{said}
 use Rattle.graph_file.specs.Line.{all_of, texts_in}
@@ -56,6 +58,14 @@ product_of nodes lists = option_map node.Product (all_of (map (source_named node
 abbrev pub matmul_of : List (List ℕ) → List ℕ → List ℕ → ℕ → ℕ → ℕ → Option NodeKind
 matmul_of nodes left right rows mid cols = option_and_then (λ left. option_map (λ right. node.Matmul left right rows mid cols) (source_named nodes right)) (source_named nodes left)
 
+-- the numbers of the unknowns that are wanted
+abbrev pub wanted : ℕ → Want → List ℕ
+wanted unknowns Every = range_with_len 1 unknowns
+wanted unknowns (Numbers numbers) = numbers
+
+abbrev pub dense_of : List (List ℕ) → List ℕ → ℕ → ℕ → Want → Option NodeKind
+dense_of nodes from rows unknowns want = option_map (λ from. node.Dense from rows unknowns (wanted unknowns want)) (source_named nodes from)
+
 abbrev pub kind_of : List (List ℕ) → List Expr → Statement → Option NodeKind
 kind_of nodes exprs (Eval from texts) = eval_of nodes from exprs
 kind_of nodes exprs (Take parts) = take_of nodes parts
@@ -64,6 +74,7 @@ kind_of nodes exprs (Chain lists) = chain_of nodes lists
 kind_of nodes exprs (Sum lists) = sum_of nodes lists
 kind_of nodes exprs (Product lists) = product_of nodes lists
 kind_of nodes exprs (Matmul left right rows mid cols) = matmul_of nodes left right rows mid cols
+kind_of nodes exprs (Dense from rows unknowns want) = dense_of nodes from rows unknowns want
 
 -- what the node of a line computes, where the lines before it are these
 pub record IsKindOf (earlier : List Line) (name : List ℕ) (statement : Statement) (kind : NodeKind) : Type 0 where

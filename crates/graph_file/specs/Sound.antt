@@ -1,5 +1,5 @@
 -- What holds of the graphs and points of every file that is read.
-use Rattle.std.specs.Prelude.{◌≡◌, ◌≢◌, ℕ, ◌<◌, ◌≤◌, ◌-◌, ◌*◌, List, [], length, Some, IsTrue, codes, slice_get}
+use Rattle.std.specs.Prelude.{◌≡◌, ◌≢◌, ℕ, ◌<◌, ◌≤◌, ◌+◌, ◌-◌, ◌*◌, List, [], length, Some, IsTrue, codes, slice_get, slice_index}
 use Rattle.ratfun_text.specs.Bytes.{is_name}
 use Rattle.ratfun_text.specs.Value.{greatest}
 use Rattle.ratfun_text.specs.declared.expr.Expr.{Expr}
@@ -7,13 +7,14 @@ use Rattle.graph_file.specs.Needed.{IsNeeded, Reads, sources_of}
 use Rattle.graph_file.specs.declared.graph.Graph.{Graph}
 use Rattle.graph_file.specs.declared.graph.Node.{Node}
 use Rattle.graph_file.specs.declared.graph.NodeKind.{NodeKind}
-use Rattle.graph_file.specs.declared.graph.NodeKind.TheVariants.{Eval, Take, Slice, Matmul}
+use Rattle.graph_file.specs.declared.graph.NodeKind.TheVariants.{Eval, Take, Slice, Matmul, Dense}
 use Rattle.graph_file.specs.declared.graph.Source.{Source}
 use Rattle.graph_file.specs.declared.graph.Source.TheVariants as source
 
--- the names are distinct, and each is a letter with letters, digits and underscores behind it
+-- the names are distinct, and each is a letter with letters, digits and underscores behind it, of at most 32 bytes
 pub record AreNames (names : List (List ℕ)) : Type 0 where
   pub named : (k : ℕ) (name : List ℕ) → slice_get names k ≡ Some name → IsTrue (is_name name)
+  pub short : (k : ℕ) (name : List ℕ) → slice_get names k ≡ Some name → length name ≤ 32
   pub distinct : (i j : ℕ) (name : List ℕ) → slice_get names i ≡ Some name → slice_get names j ≡ Some name → i ≡ j
 
 -- a position in a list, or a number of rows or columns
@@ -30,6 +31,15 @@ pub record AreSides (rows mid cols : ℕ) : Type 0 where
   pub left : rows * mid ≤ 262144
   pub right : mid * cols ≤ 262144
 
+-- a system of 1 to 512 equations in 1 to 511 unknowns, of which some are wanted, each by its number, counted from 1
+pub record IsDense (rows unknowns : ℕ) (want : List ℕ) : Type 0 where
+  pub rows_low : 1 ≤ rows
+  pub rows_high : rows ≤ 512
+  pub unknowns_low : 1 ≤ unknowns
+  pub unknowns_high : unknowns ≤ 511
+  pub some : 0 < length want
+  pub wanted : (i : ℕ) → i < length want → (0 < slice_index want i) × (slice_index want i < unknowns + 1)
+
 -- what a node reads is there: the graph's input, which has this many variables, or the list of a node before the
 -- one with this number, counted from 0; and its numbers are in their ranges
 pub record IsKind (variables number : ℕ) (kind : NodeKind) : Type 0 where
@@ -40,10 +50,13 @@ pub record IsKind (variables number : ℕ) (kind : NodeKind) : Type 0 where
   pub positions : (parts : List (Source × ℕ)) → kind ≡ Take parts → (k : ℕ) (part : Source × ℕ) → slice_get parts k ≡ Some part → IsPosition part.1
   pub range : (from : Source) (first last : ℕ) → kind ≡ Slice from first last → (1 ≤ first) × (first ≤ last) × (last ≤ 262144)
   pub sides : (left right : Source) (rows mid cols : ℕ) → kind ≡ Matmul left right rows mid cols → AreSides rows mid cols
+  pub dense : (from : Source) (rows unknowns : ℕ) (want : List ℕ) → kind ≡ Dense from rows unknowns want → IsDense rows unknowns want
 
--- the node with this number, counted from 0, has a name that isn't `input`, and is sound in a graph of this many variables
+-- the node with this number, counted from 0, has a name of at most 32 bytes that isn't `input`, and is sound in a graph
+-- of this many variables
 pub record IsNode (variables number : ℕ) (node : Node) : Type 0 where
   pub named : IsTrue (is_name node.name)
+  pub short : length node.name ≤ 32
   pub no_input : node.name ≢ codes "input"
   pub kind : IsKind variables number node.kind
 
@@ -52,9 +65,10 @@ pub record IsMarked (graph : Graph) (k : ℕ) (node : Node) : Type 0 where
   pub needed : IsTrue node.needed → ∥ IsNeeded graph k ∥₁
   pub marked : IsNeeded graph k → IsTrue node.needed
 
--- a graph has 1 to 8 variables, at most 4096 sound nodes with distinct names, each marked where it is needed, and its
--- input or one of its nodes as output
+-- a graph has a name of at most 32 bytes, 1 to 8 variables, at most 4096 sound nodes with distinct names, each marked
+-- where it is needed, and its input or one of its nodes as output
 pub record IsGraph (graph : Graph) : Type 0 where
+  pub short : length graph.name ≤ 32
   pub some : 1 ≤ length graph.inputs
   pub few : length graph.inputs ≤ 8
   pub variables : AreNames graph.inputs
@@ -64,9 +78,11 @@ pub record IsGraph (graph : Graph) : Type 0 where
   pub marks : (k : ℕ) (node : Node) → slice_get graph.nodes k ≡ Some node → IsMarked graph k node
   pub output : (k : ℕ) → graph.output ≡ source.Node k → k < length graph.nodes
 
--- there are 1 to 64 graphs, each graph is sound, and each point has an entry for each variable of the last graph
+-- there are 1 to 64 graphs and at most 65536 points, each graph is sound, and each point has an entry for each variable
+-- of the last graph
 pub record IsJob (graphs : List Graph) (points : List (List ℕ)) : Type 0 where
   pub main : 1 ≤ length graphs
   pub bounded : length graphs ≤ 64
+  pub few_points : length points ≤ 65536
   pub graph : (k : ℕ) (graph : Graph) → slice_get graphs k ≡ Some graph → IsGraph graph
   pub entries : (k : ℕ) (point : List ℕ) (graph : Graph) → slice_get points k ≡ Some point → slice_get graphs (length graphs - 1) ≡ Some graph → length point ≡ length graph.inputs

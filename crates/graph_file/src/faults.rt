@@ -4,7 +4,7 @@ ghost use Rattle.std.specs.List.{list_all};
 ghost use Rattle.graph_file.specs.Faults as spec;
 
 use crate::error::FileKind;
-use crate::line::{Last, Line, Statement};
+use crate::line::{Last, Line, Statement, Want};
 use crate::table::Table;
 use ratfun_text::Name;
 use std::alloc::{AllocError, Global};
@@ -23,6 +23,12 @@ const POINTS: usize = 65536;
 
 /// The greatest position in a list, number of rows or columns, and number of entries of a matrix.
 const POSITIONS: u32 = 262144;
+
+/// The most equations of a system.
+const EQUATIONS: u32 = 512;
+
+/// The most unknowns of a system.
+const UNKNOWNS: u32 = 511;
 
 /// What each entry of a point is below: 2^61 - 1.
 const ENTRY_LIMIT: u64 = 2305843009213693951;
@@ -130,6 +136,7 @@ fn are_lists_known(nodes: &Table, statement: &Statement) -> bool
             mid: _,
             cols: _,
         } => is_known(nodes, left.bytes()) && is_known(nodes, right.bytes()),
+        Statement::Dense { from, .. } => is_known(nodes, from.bytes()),
     }
 }
 
@@ -193,6 +200,33 @@ fn is_product(rows: u32, mid: u32, cols: u32) -> bool
         && are_sides(mid, cols)
 }
 
+fn is_counted(number: u32, most: u32) -> bool
+    ensures { result ≡ spec.is_counted number most }
+{
+    1 <= number && number <= most
+}
+
+fn are_unknowns(numbers: &[u32], unknowns: u32) -> bool
+    ensures { result ≡ list_all (λ number. spec.is_counted number unknowns) numbers.now }
+{
+    numbers.iter().all(|number| is_counted(*number, unknowns))
+}
+
+fn is_want(unknowns: u32, want: &Want) -> bool
+    ensures { result ≡ spec.is_want unknowns want.now }
+{
+    match want {
+        Want::Every => true,
+        Want::Numbers(numbers) => are_unknowns(numbers.as_slice(), unknowns),
+    }
+}
+
+fn is_system(rows: u32, unknowns: u32, want: &Want) -> bool
+    ensures { result ≡ spec.is_system rows unknowns want.now }
+{
+    is_counted(rows, EQUATIONS) && is_counted(unknowns, UNKNOWNS) && is_want(unknowns, want)
+}
+
 fn is_in_range(statement: &Statement) -> bool
     ensures { result ≡ spec.is_in_range statement.now }
 {
@@ -210,6 +244,12 @@ fn is_in_range(statement: &Statement) -> bool
             mid,
             cols,
         } => is_product(*rows, *mid, *cols),
+        Statement::Dense {
+            from: _,
+            rows,
+            unknowns,
+            want,
+        } => is_system(*rows, *unknowns, want),
         _ => true,
     }
 }

@@ -47,6 +47,15 @@ pub enum NodeKind {
         mid: u32,
         cols: u32,
     },
+    /// The solution of a system of `rows` linear equations in `unknowns` unknowns. The list has equation after equation:
+    /// the coefficients of the unknowns, and then the right side. `want` has the numbers of the unknowns whose values are
+    /// wanted, counted from 1.
+    Dense {
+        from: Source,
+        rows: u32,
+        unknowns: u32,
+        want: Items<u32>,
+    },
 }
 
 /// A node of a graph.

@@ -9,6 +9,8 @@ use sqlite_items::Items;
 pub enum Need {
     /// The values of the main graph at the file's points.
     Points,
+    /// What learning its graphs gives.
+    Learning,
 }
 
 /// What a file asks for. The last graph is the main graph.

@@ -1,10 +1,11 @@
 //! What a node computes, from what its line says.
 ghost use Rattle.std.specs.Prelude.{◌≡◌, ◌≤◌, length, map, IfOk};
+ghost use Rattle.std.specs.List.{range_with_len};
 ghost use Rattle.graph_file.specs.Line.{all_of};
 ghost use Rattle.graph_file.specs.Says as spec;
 
 use crate::graph::{NodeKind, Source};
-use crate::line::Statement;
+use crate::line::{Statement, Want};
 use crate::table::Table;
 use ratfun_text::{Expr, Name};
 use sqlite_items::Items;
@@ -151,6 +152,50 @@ fn matmul_of(
     })
 }
 
+/// The numbers of a system's unknowns, in their order.
+fn every_unknown(alloc: Global, unknowns: u32) -> Result<Items<u32>, AllocError>
+    ensures { IfOk result (λ numbers. numbers ≡ range_with_len 1 unknowns) }
+{
+    let mut numbers = Items::new(alloc);
+    for place in 0..unknowns {
+        numbers.push(place + 1)?;
+    }
+    Ok(numbers)
+}
+
+/// The numbers of the unknowns that are wanted.
+fn wanted(alloc: Global, unknowns: u32, want: &Want) -> Result<Items<u32>, AllocError>
+    ensures { IfOk result (λ numbers. numbers ≡ spec.wanted unknowns want.now) }
+{
+    match want {
+        Want::Every => every_unknown(alloc, unknowns),
+        Want::Numbers(numbers) => Items::from_slice(alloc, numbers.as_slice()),
+    }
+}
+
+fn dense_of(
+    alloc: Global,
+    nodes: &Table,
+    from: &[u8],
+    rows: u32,
+    unknowns: u32,
+    want: &Want,
+) -> Result<Option<NodeKind>, AllocError>
+    requires { length nodes.now.names ≤ 4096 }
+    ensures { IfOk result (λ kind. kind ≡ spec.dense_of nodes.now.names from.now rows unknowns want.now) }
+{
+    let Some(from) = source_named(nodes, from) else {
+        return Ok(None);
+    };
+    let want = wanted(alloc, unknowns, want)?;
+    Ok(Some(NodeKind::Dense {
+        from,
+        rows,
+        unknowns,
+        want,
+    }))
+}
+
 /// What a node computes, where the earlier nodes have these names and its expressions these trees.
 pub fn kind_of(
     alloc: Global,
@@ -175,5 +220,11 @@ pub fn kind_of(
             mid,
             cols,
         } => Ok(matmul_of(nodes, left.bytes(), right.bytes(), *rows, *mid, *cols)),
+        Statement::Dense {
+            from,
+            rows,
+            unknowns,
+            want,
+        } => dense_of(alloc, nodes, from.bytes(), *rows, *unknowns, want),
     }
 }

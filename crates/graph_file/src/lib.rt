@@ -25,4 +25,5 @@ pub use error::{FileError, FileKind};
 pub use graph::{Graph, Node, NodeKind, Source};
 pub use job::{Job, Need};
 pub use laws::{no_fault, one_fault, one_form};
+pub use needed::sources_of;
 pub use read::read_graphs;

@@ -57,6 +57,22 @@ pub enum Statement {
         mid: u32,
         cols: u32,
     },
+    /// `dense LIST NUM NUM`, and then nothing or `want NUM ..`
+    Dense {
+        from: Name,
+        rows: u32,
+        unknowns: u32,
+        want: Want,
+    },
+}
+
+/// The unknowns of a system whose values are wanted.
+#[derive(Drop)]
+pub enum Want {
+    /// Every unknown, in their order.
+    Every,
+    /// Those with these numbers, counted from 1, in this order.
+    Numbers(Items<u32>),
 }
 
 /// Which kind of line stood last among those that weren't passed over.

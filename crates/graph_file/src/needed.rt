@@ -1,7 +1,7 @@
 //! The nodes on which a graph's output rests.
 ghost use Rattle.std.specs.Prelude.{◌≡◌, ◌<◌, ◌≤◌, ◌+◌, ℕ, Some, false, length, map, replicate, slice_get, IfOk};
 ghost use Rattle.graph_file.specs.Needed as spec;
-ghost use Rattle.graph_file.specs.Needed.{kinds_of, sources_of};
+ghost use Rattle.graph_file.specs.Needed.{kinds_of};
 ghost use Rattle.graph_file.specs.Marks.{AreMarkedFrom, MarksFirst, ReadEarlier, marked};
 ghost use Rattle.graph_file.specs.Says.{names_of};
 ghost use Rattle.graph_file.specs.declared.graph.Node.{Node as NodeOf};
@@ -38,9 +38,9 @@ fn part_sources(alloc: Global, parts: &[(Source, u32)]) -> Result<Items<Source>,
     Ok(sources)
 }
 
-/// The lists that a node reads.
-fn sources(alloc: Global, kind: &NodeKind) -> Result<Items<Source>, AllocError>
-    ensures { IfOk result (λ sources. sources ≡ sources_of kind.now) }
+/// The lists that a node of this kind reads, in the order of its line.
+pub fn sources_of(alloc: Global, kind: &NodeKind) -> Result<Items<Source>, AllocError>
+    ensures { IfOk result (λ sources. sources ≡ spec.sources_of kind.now) }
 {
     match kind {
         NodeKind::Eval { from, exprs: _ } => one_source(alloc, *from),
@@ -60,6 +60,7 @@ fn sources(alloc: Global, kind: &NodeKind) -> Result<Items<Source>, AllocError>
             mid: _,
             cols: _,
         } => two_sources(alloc, *left, *right),
+        NodeKind::Dense { from, .. } => one_source(alloc, *from),
     }
 }
 
@@ -103,7 +104,7 @@ fn with_reads(
     if !flags[place] {
         return Ok(flags);
     }
-    let sources = sources(alloc, &nodes[place].kind)?;
+    let sources = sources_of(alloc, &nodes[place].kind)?;
     let flags = with_marks(flags, sources.as_slice());
     Ok(flags)
 }

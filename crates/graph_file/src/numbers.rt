@@ -47,12 +47,26 @@ pub fn entry(word: &[u8]) -> Option<u64>
     capped(word, u64::MAX)
 }
 
-/// The position, or the number of rows or columns, that the word writes.
+/// The position, the number of rows, columns or unknowns, or the number of an unknown that the word writes.
 pub fn size(word: &[u8]) -> Option<u32>
     ensures { result ≡ spec.size_of word.now }
 {
     let size = capped(word, u64::from(u32::MAX))?;
     Some(size as u32)
+}
+
+/// The numbers of unknowns that the words write.
+pub fn sizes(alloc: Global, words: &[&[u8]]) -> Result<Option<Items<u32>>, AllocError>
+    ensures { IfOk result (λ sizes. sizes ≡ spec.all_of (map spec.size_of (map (λ word. word.now) words.now))) }
+{
+    let mut all = Items::new(alloc);
+    for word in words {
+        let Some(size) = size(word) else {
+            return Ok(None);
+        };
+        all.push(size)?;
+    }
+    Ok(Some(all))
 }
 
 /// The entries that the words write.

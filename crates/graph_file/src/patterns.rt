@@ -5,9 +5,9 @@ ghost use Rattle.ratfun_text.specs.Bytes as spec_bytes;
 ghost use Rattle.graph_file.specs.Formed.{IsFormed};
 ghost use Rattle.graph_file.specs.Line as spec;
 
-use crate::line::{Line, Statement};
+use crate::line::{Line, Statement, Want};
 use crate::lines::{after_words, cut, is_plain, words};
-use crate::numbers::{entries, entry, size};
+use crate::numbers::{entries, entry, size, sizes};
 use ratfun_text::Name;
 use ratfun_text::bytes::is_name;
 use sqlite_items::Items;
@@ -225,6 +225,55 @@ fn matmul_node(alloc: Global, words: &[&[u8]]) -> Result<Option<Statement>, Allo
     }))
 }
 
+fn numbers_wanted(alloc: Global, words: &[&[u8]]) -> Result<Option<Want>, AllocError>
+    ensures { IfOk result (λ want. want ≡ spec.numbers_wanted (map (λ word. word.now) words.now)) }
+{
+    let [_, ..] = words else {
+        return Ok(None);
+    };
+    let Some(numbers) = sizes(alloc, words)? else {
+        return Ok(None);
+    };
+    Ok(Some(Want::Numbers(numbers)))
+}
+
+/// The unknowns that are wanted, by the words behind a system's size.
+fn want_of(alloc: Global, words: &[&[u8]]) -> Result<Option<Want>, AllocError>
+    ensures { IfOk result (λ want. want ≡ spec.want_of (map (λ word. word.now) words.now)) }
+{
+    let [first, later @ ..] = words else {
+        return Ok(Some(Want::Every));
+    };
+    if *first == b"want".as_slice() {
+        return numbers_wanted(alloc, later);
+    }
+    Ok(None)
+}
+
+fn dense_node(alloc: Global, words: &[&[u8]]) -> Result<Option<Statement>, AllocError>
+    ensures { IfOk result (λ node. node ≡ spec.dense_node (map (λ word. word.now) words.now)) }
+{
+    let [from, rows, unknowns, later @ ..] = words else {
+        return Ok(None);
+    };
+    let Some(rows) = size(rows) else {
+        return Ok(None);
+    };
+    let Some(unknowns) = size(unknowns) else {
+        return Ok(None);
+    };
+    let Some(want) = want_of(alloc, later)? else {
+        return Ok(None);
+    };
+    let from = Name::of(alloc, from)?;
+    Ok(Some(Statement::Dense {
+        from,
+        rows,
+        unknowns,
+        want,
+    }))
+}
+
 fn statement_of(
     alloc: Global,
     line: &[u8],
@@ -253,6 +302,9 @@ fn statement_of(
     }
     if kind == b"matmul".as_slice() {
         return matmul_node(alloc, words);
+    }
+    if kind == b"dense".as_slice() {
+        return dense_node(alloc, words);
     }
     Ok(None)
 }

@@ -139,7 +139,8 @@ fn finish(reader: Reader, need: Need) -> Result<Job, AllocError>
 /// A file has the line `flow 1`, then `graph NAME`, `input NAME ..`, any number of lines `node NAME KIND ..`, the line
 /// `output LIST`, and any number of lines `point NUM ..`. Lines of blanks and lines that begin with `#` are passed over,
 /// but not as line 1. The kinds of nodes are `eval LIST = EXPR ; ..`, `take LIST NUM ..`, `slice LIST NUM NUM`,
-/// `chain LIST ..`, `sum LIST ..`, `product LIST ..` and `matmul LIST LIST NUM NUM NUM`.
+/// `chain LIST ..`, `sum LIST ..`, `product LIST ..`, `matmul LIST LIST NUM NUM NUM` and `dense LIST NUM NUM`, behind which
+/// `want NUM ..` may stand.
 ///
 /// A refusal tells the first bad line with the first kind of `FileKind`'s order that applies there, or `Missing` at the
 /// last line. Want of memory is the kind `NoMemory` at line 0.

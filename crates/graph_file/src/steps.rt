@@ -1,5 +1,5 @@
 //! What a reader keeps after one more line.
-ghost use Rattle.std.specs.Prelude.{◌≡◌, ◌<◌, ℕ, List, [], ◌∷◌, Some, true, false, length, bytes_eq, IfOk};
+ghost use Rattle.std.specs.Prelude.{◌≡◌, ◌<◌, ◌≤◌, ℕ, List, [], ◌∷◌, Some, true, false, length, bytes_eq, IfOk};
 ghost use Rattle.std.specs.List.{list_any};
 ghost use Rattle.ratfun_text.specs.Names.{names_of as variables_of};
 ghost use Rattle.graph_file.specs.declared.graph.Source.TheVariants as source;
@@ -51,7 +51,8 @@ pub fn after_flow(reader: Reader) -> Reader
 
 /// The reader after `graph NAME`.
 pub fn after_graph(reader: Reader, name: Name) -> Reader
-    requires { has_input reader.stood ≡ false }
+    requires fresh { has_input reader.stood ≡ false }
+    requires short { length name ≤ 32 }
     ensures { (earlier : List LineOf) → IsRead earlier reader → IsRead (line.Graph name ∷ earlier) result }
 {
     let mut reader = reader;
@@ -125,6 +126,7 @@ pub fn after_output(reader: Reader, output: Source) -> Reader
 /// The reader after `point NUM ..`.
 pub fn after_point(reader: Reader, entries: &[u64]) -> Result<Reader, AllocError>
     requires ended { has_output reader.stood ≡ true }
+    requires few { length reader.points < 65536 }
     requires point { IsPoint entries.now }
     requires fits { length entries.now ≡ length (variables_of reader.variables) }
     ensures { IfOk result (λ next. (earlier : List LineOf) → IsRead earlier reader → IsRead (line.Point entries.now ∷ earlier) next) }

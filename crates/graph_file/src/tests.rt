@@ -104,6 +104,50 @@ fn nodes_of_each_kind_are_read(rt: HostRuntime) -> Result<(), Fail> {
 }
 
 #[test]
+fn systems_are_read_with_their_unknowns(rt: HostRuntime) -> Result<(), Fail> {
+    for (line, expected) in [
+        (b"dense input 2 3".as_slice(), [1, 2, 3].as_slice()),
+        (b"dense input 2 3 want 3 1 3", [3, 1, 3].as_slice()),
+        (b"dense input 02 3 want 2", [2].as_slice()),
+    ] {
+        let mut bytes = Vec::from_slice(rt.alloc(), b"flow 1\ngraph main\ninput x\nnode s ")?;
+        bytes.extend_from_slice(line)?;
+        bytes.extend_from_slice(b"\noutput s\n")?;
+        let job = read(&rt, rt.alloc(), bytes.as_slice())?;
+        let graph = job.graphs.get(0).expect(&rt, "the graph");
+        let node = graph.nodes.get(0).expect(&rt, "the node");
+        assert!(rt; node.needed);
+        let NodeKind::Dense {
+            from,
+            rows,
+            unknowns,
+            want,
+        } = &node.kind
+        else {
+            return Err(Fail::from("another kind"));
+        };
+        assert_eq!(rt; (*from, *rows, *unknowns), (Source::Input, 2, 3));
+        assert_eq!(rt; want.as_slice(), expected);
+    }
+    Ok(())
+}
+
+#[test]
+fn the_largest_system_is_read_for_learning(rt: HostRuntime) -> Result<(), Fail> {
+    let bytes = b"flow 1\ngraph main\ninput x\nnode s dense input 512 511\noutput s\n";
+    let job = read_graphs(rt.alloc(), bytes, Need::Learning)?;
+    assert_eq!(rt; job.need, Need::Learning);
+    let graph = job.graphs.get(0).expect(&rt, "the graph");
+    let node = graph.nodes.get(0).expect(&rt, "the node");
+    let NodeKind::Dense { want, .. } = &node.kind else {
+        return Err(Fail::from("another kind"));
+    };
+    assert_eq!(rt; want.len(), 511);
+    assert_eq!(rt; want.get(510), Some(&511));
+    Ok(())
+}
+
+#[test]
 fn the_input_may_be_the_output(rt: HostRuntime) -> Result<(), Fail> {
     let job = read(
         &rt,
@@ -137,7 +181,24 @@ fn lines_out_of_form_are_told(rt: HostRuntime) {
             4,
         ),
         (b"flow 1\ngraph main\ninput x\nnode r eval input x\n", 4),
-        (b"flow 1\ngraph main\ninput x\nnode r dense input 1 1\n", 4),
+        (b"flow 1\ngraph main\ninput x\nnode r sparse input 1\n", 4),
+        (b"flow 1\ngraph main\ninput x\nnode r dense input 1\n", 4),
+        (
+            b"flow 1\ngraph main\ninput x\nnode r dense input 1 one\n",
+            4,
+        ),
+        (
+            b"flow 1\ngraph main\ninput x\nnode r dense input 1 2 want\n",
+            4,
+        ),
+        (
+            b"flow 1\ngraph main\ninput x\nnode r dense input 1 2 want 1 z\n",
+            4,
+        ),
+        (
+            b"flow 1\ngraph main\ninput x\nnode r dense input 1 2 2\n",
+            4,
+        ),
         (
             b"flow 1\ngraph main\ninput x\noutput input\ngraph next\n",
             5,
@@ -184,6 +245,11 @@ fn the_first_kind_is_told_at_its_line(rt: HostRuntime) {
             FileKind::UnknownNode,
         ),
         (
+            b"flow 1\ngraph main\ninput x\nnode a dense b 513 1\n",
+            4,
+            FileKind::UnknownNode,
+        ),
+        (
             b"flow 1\ngraph main\ninput x\noutput input\npoint 2305843009213693951\n",
             5,
             FileKind::Residue,
@@ -220,6 +286,46 @@ fn the_first_kind_is_told_at_its_line(rt: HostRuntime) {
         ),
         (
             b"flow 1\ngraph main\ninput x\nnode a matmul input input 512 1 513\n",
+            4,
+            FileKind::Limit,
+        ),
+        (
+            b"flow 1\ngraph main\ninput x\nnode a dense input 0 1\n",
+            4,
+            FileKind::Limit,
+        ),
+        (
+            b"flow 1\ngraph main\ninput x\nnode a dense input 513 1\n",
+            4,
+            FileKind::Limit,
+        ),
+        (
+            b"flow 1\ngraph main\ninput x\nnode a dense input 1 0\n",
+            4,
+            FileKind::Limit,
+        ),
+        (
+            b"flow 1\ngraph main\ninput x\nnode a dense input 1 512\n",
+            4,
+            FileKind::Limit,
+        ),
+        (
+            b"flow 1\ngraph main\ninput x\nnode a dense input 512 512\n",
+            4,
+            FileKind::Limit,
+        ),
+        (
+            b"flow 1\ngraph main\ninput x\nnode a dense input 1 99999999999999999999\n",
+            4,
+            FileKind::Limit,
+        ),
+        (
+            b"flow 1\ngraph main\ninput x\nnode a dense input 2 2 want 0\n",
+            4,
+            FileKind::Limit,
+        ),
+        (
+            b"flow 1\ngraph main\ninput x\nnode a dense input 2 2 want 1 3\n",
             4,
             FileKind::Limit,
         ),

@@ -6,9 +6,7 @@ pub returns : goal.returns
 returns c =
     let laws : Laws = record {
       one_outcome = c.one_outcome.ensures;
-      one_output = c.one_length.ensures.output;
-      fits_or_fails = c.one_length.ensures.either;
-      one_failing_node = c.one_length.ensures.node;
+      one_lesson = c.one_lesson.ensures;
       one_told = c.one_fault.ensures;
       told_or_nothing = λ bytes n a bad good. c.no_fault.ensures bytes n a good bad;
       one_form = c.one_form.ensures;

@@ -1,8 +1,10 @@
 -- The lines of the points so far.
 use Rattle.std.proofs.Common.{take}
 use Rattle.prime_field.specs.Modulus.{value_of}
+use Rattle.prime_field.specs.Residue.{IsPrime}
+use Rattle.graph_eval.specs.Learned.{sets_of}
 use Rattle.flow_program.specs.Sampled.{SamplesTo}
 use Rattle.flow_program.proofs.sampling.sample.Given as goal
 
 abbrev pub invariant-loop-point : goal.invariant-loop-point
-invariant-loop-point l = SamplesTo (value_of l.modulus) l.job.graphs (take l.point-index l.job.points) l.text.items
+invariant-loop-point l = IsPrime (value_of l.modulus) → SamplesTo (value_of l.modulus) l.job.graphs (sets_of l.learned) (take l.point-index l.job.points) l.text.items

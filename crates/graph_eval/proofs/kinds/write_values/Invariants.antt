@@ -2,7 +2,7 @@
 use Rattle.std.proofs.Common.{◌≡◌, ◌<◌, All, map, drop, take}
 use Rattle.prime_field.specs.Modulus.{value_of}
 use Rattle.ratfun_text.specs.Value.{value}
-use Rattle.graph_eval.specs.GraphValue.{all_of}
+use Rattle.graph_file.specs.Line.{all_of}
 use Rattle.graph_eval.proofs.Gathered.{onto}
 use Rattle.graph_eval.proofs.kinds.write_values.Given as goal
 

@@ -1,5 +1,5 @@
 -- The laws, for every graph.
-use Rattle.graph_eval.proofs.OneLength.{failure_once, fits_or_fails, lengths_once, output_once}
+use Rattle.graph_eval.proofs.OneLength.{failure_once, fits_or_fails, lengths_once, output_once, sets_once}
 use Rattle.graph_eval.proofs.laws.one_length.Goals as goal
 
 pub returns-clause-lengths : goal.returns-clause-lengths
@@ -9,7 +9,10 @@ pub returns-clause-output : goal.returns-clause-output
 returns-clause-output c = output_once
 
 pub returns-clause-either : goal.returns-clause-either
-returns-clause-either c = fits_or_fails
+returns-clause-either c = λ graph a n plain. fits_or_fails graph plain a n
 
 pub returns-clause-node : goal.returns-clause-node
 returns-clause-node c = failure_once
+
+pub returns-clause-sets : goal.returns-clause-sets
+returns-clause-sets c = λ graph a b plain. sets_once graph plain a b

@@ -8,10 +8,10 @@ use Rattle.graph_eval.proofs.lengths.kind_length.Goals as goal
 
 pub named_lengths-requires : goal.named_lengths-requires
 named_lengths-requires c =
-    All-same (IsAmong (length c.args.earlier.now)) _ _ (c.as_slice.ensures.value ∙ c.in_ok-sources.ensures) (sources_sound c.args.inputs (length c.args.earlier.now) c.args.kind.now c.requires.sound)
+    All-same (IsAmong (length c.args.earlier.now)) _ _ (c.as_slice.ensures ∙ c.in_ok-sources.ensures) (sources_sound c.args.inputs (length c.args.earlier.now) c.args.kind.now c.requires.sound)
 
 pub length_of-requires-clause-shape : goal.length_of-requires-clause-shape
-length_of-requires-clause-shape c = subst IsShape (sym c.in_ok-shape.ensures) (shape_sound c.args.inputs (length c.args.earlier.now) c.args.kind.now c.requires.sound)
+length_of-requires-clause-shape c = subst IsShape (sym c.in_ok-shape.ensures) (shape_sound c.args.inputs (length c.args.earlier.now) c.args.set.now c.args.kind.now c.requires.sound c.requires.set)
 
 pub length_of-requires-clause-within : goal.length_of-requires-clause-within
 length_of-requires-clause-within c =

@@ -17,7 +17,7 @@ invariant_of-result c =
     record {
       sound = job-sound c.args.reader c.marked_nodes-nodes.result.items c.marked_nodes-nodes.ensures.names c.marked_nodes-nodes.ensures.kinds c.in-Some.name c.in-Some-output.output c.in_ok-flags.flags.items marks marked c.push.new.self
           (one-graph c.in-Some.name (variables_of c.args.reader.variables) c.listed.result c.marked_nodes-nodes.result.items c.from_vec.result c.in-Some-output.output c.new-graphs.result c.push.new.self c.new-graphs.ensures c.in_ok-push.ensures.ok c.listed.ensures c.from_vec.ensures)
-          c.requires c.in-Some-output.is;
+          c.requires c.in-Some.is c.in-Some-output.is;
     }
 
 pub returns-clause-said : goal.returns-clause-said

@@ -1,0 +1,15 @@
+-- The answer of the job follows from what learning its graphs gave.
+use Rattle.graph_file.specs.Says.{form}
+use Rattle.flow_program.specs.Reply.{answer_of}
+use Rattle.flow_program.proofs.JobLaws.{learned_job, unlearned_job}
+use Rattle.flow_program.proofs.reply.reply_to_job.Goals as goal
+
+pub returns-in_ok-told_learned-in-Ok-clause-answer : goal.returns-in_ok-told_learned-in-Ok-clause-answer
+returns-in_ok-told_learned-in-Ok-clause-answer c = λ prime.
+    let job = c.args.job.now in
+    learned_job c.args.task (form job) job.need c.in-Ok.learned c.in_ok-told_learned-in-Ok.field-0.items c.new.result.items c.requires (c.in-Ok.ensures.told prime.first) (c.in_ok-told_learned-in-Ok.ensures prime) c.new.ensures.items
+
+pub returns-in_ok-reply_to_unlearned-in-Err-clause-answer : goal.returns-in_ok-reply_to_unlearned-in-Err-clause-answer
+returns-in_ok-reply_to_unlearned-in-Err-clause-answer c = λ prime.
+    let job = c.args.job.now in
+    unlearned_job c.args.task (form job) job.need c.in-Err.why (answer_of c.in_ok-reply_to_unlearned-in-Err.field-0) c.requires (c.in-Err.ensures.told prime.first) c.in_ok-reply_to_unlearned-in-Err.ensures.answer

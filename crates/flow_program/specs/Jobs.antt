@@ -1,0 +1,82 @@
+-- The answer of a file that is read, and of the graphs and points that it says.
+use Rattle.std.specs.Prelude.{◌≡◌, ℕ, ◌≤◌, List, [], length, slice_get, Some, MatchBool, nat_lt, ◌⊎◌, codes}
+use Rattle.prime_field.specs.Modulus.{value_of}
+use Rattle.graph_file.specs.declared.error.FileKind.{FileKind}
+use Rattle.graph_file.specs.declared.graph.Graph.{Graph}
+use Rattle.graph_file.specs.File.{IsFirstBad, IsGoodFile}
+use Rattle.graph_file.specs.Says.{FileForm, Says}
+use Rattle.graph_eval.specs.declared.learned.GraphLearned.{GraphLearned}
+use Rattle.graph_eval.specs.Learned.{sets_of}
+use Rattle.learn_phase.specs.LearnedSets.{BreaksLength, LearnedSets, Learns, Lesson, NoPoint}
+use Rattle.flow_program.specs.declared.task.Task.{Task}
+use Rattle.flow_program.specs.declared.task.Task.TheVariants as task
+use Rattle.flow_program.specs.Answer.{Answer, refusal}
+use Rattle.flow_program.specs.Lessons.{lessons}
+use Rattle.flow_program.specs.Refusals.{file_text, length_text, no_point_text, told_list}
+use Rattle.flow_program.specs.Sampled.{SamplesTo}
+use Rattle.flow_program.specs.Tasks.{need_of}
+
+-- everything went well: status 0, with this text
+abbrev pub success : List ℕ → Answer
+success text = record { status = 0; out = text; err = [] }
+
+-- what is answered of graphs that are all learned: the lines of the points, or what was learned
+abbrev pub LearnedAnswer : Task → FileForm → List GraphLearned → Answer → Type 0
+LearnedAnswer (task.Sample modulus) form learned answer = (text : List ℕ) × SamplesTo (value_of modulus) form.graphs (sets_of learned) form.points text × (answer ≡ success text)
+LearnedAnswer task.Learn form learned answer = answer ≡ success (lessons form.graphs learned)
+
+-- status 4 with a text on the graph that has this number
+pub record IsUnlearned (graphs : List Graph) (number : ℕ) (text : Graph → List ℕ) (answer : Answer) : Type 0 where
+  pub graph : Graph
+  pub is_graph : slice_get graphs number ≡ Some graph
+  pub told : answer ≡ refusal 4 (text graph)
+
+-- what is answered after this lesson
+abbrev pub LessonAnswer : Task → FileForm → Lesson → Answer → Type 0
+LessonAnswer what form (Learns learned) answer = LearnedAnswer what form learned answer
+LessonAnswer what form (NoPoint number first) answer = IsUnlearned form.graphs number (λ graph. no_point_text graph first) answer
+LessonAnswer what form (BreaksLength number node) answer = IsUnlearned form.graphs number (λ graph. length_text graph (told_list graph.output node)) answer
+
+-- the answer of what a file says
+pub record JobAnswer (what : Task) (form : FileForm) (answer : Answer) : Type 0 where
+  pub lesson : Lesson
+  pub learns : LearnedSets (need_of what) form.graphs form.points lesson
+  pub right : LessonAnswer what form lesson answer
+
+-- the file has a bad line: status 3 with the first one
+pub record IsRefused (bytes : List ℕ) (answer : Answer) : Type 0 where
+  pub line : ℕ
+  pub kind : FileKind
+  pub bad : IsFirstBad bytes line kind
+  pub told : answer ≡ refusal 3 (file_text line kind)
+
+-- the file has no bad line, and the answer is that of what it says
+pub record IsRead (what : Task) (bytes : List ℕ) (answer : Answer) : Type 0 where
+  pub good : IsGoodFile bytes
+  pub form : FileForm
+  pub says : Says bytes form
+  pub right : JobAnswer what form answer
+
+-- the most bytes that a file has
+abbrev pub most_bytes : ℕ
+most_bytes = 16777216
+
+abbrev pub long_answer : Answer
+long_answer = refusal 3 (codes "flow: file too long\n")
+
+-- the answer of bytes that are not too many
+abbrev pub ShortAnswer : Task → List ℕ → Answer → Type 0
+ShortAnswer what bytes answer = IsRefused bytes answer ⊎ IsRead what bytes answer
+
+-- the answer of a file of these bytes, with which this is to be done
+abbrev pub FileAnswer : Task → List ℕ → Answer → Type 0
+FileAnswer what bytes answer = MatchBool (nat_lt most_bytes (length bytes)) (answer ≡ long_answer) (ShortAnswer what bytes answer)
+
+-- the file is read and its graphs are learned
+pub record IsLearned (what : Task) (bytes : List ℕ) : Type 0 where
+  pub fits : length bytes ≤ most_bytes
+  pub good : IsGoodFile bytes
+  pub form : FileForm
+  pub says : Says bytes form
+  pub learned : List GraphLearned
+  pub learns : LearnedSets (need_of what) form.graphs form.points (Learns learned)

@@ -1,0 +1,200 @@
+-- What learning a graph node by node says of its answer.
+use Rattle.std.proofs.Common.{◌≡◌, ℕ, ◌+◌, ◌<◌, ◌≤◌, Bool, true, false, IsTrue, if◌then◌else◌, List, [], ◌∷◌, ◌++◌, All, length, map, take, get_or, Option, Some, None, refl, sym, ◌∙◌, ap, subst, length-append, arith, inl, inr}
+use Rattle.std.specs.Prelude.{slice_get, slice_index_or, IfSome, option_and_then}
+use Rattle.std.proofs.lemmas.Bool.{cases_eq}
+use Rattle.std.proofs.lemmas.List.{take-append-le}
+use Rattle.std.proofs.lemmas.List.Elements.{All-nil}
+use Rattle.std.proofs.Math.Seq.{get_or-append_seam, take-append_seam, take-length}
+use Rattle.std.proofs.Math.ListN.{get_or-append}
+use Rattle.prime_field.specs.Residue.{IsPrime}
+use Rattle.graph_file.specs.declared.graph.Graph.{Graph}
+use Rattle.graph_file.specs.declared.graph.Node.{Node}
+use Rattle.graph_eval.specs.declared.fresh.Fresh.{Fresh}
+use Rattle.graph_eval.specs.declared.fresh.Fresh.TheVariants as fresh
+use Rattle.graph_eval.specs.declared.learned.GraphLearned.{GraphLearned}
+use Rattle.graph_eval.specs.declared.outcome.Cause.{Cause}
+use Rattle.graph_eval.specs.Evaluated.{IsNeededNode, no_graphs}
+use Rattle.graph_eval.specs.Fresh.{BreaksLength, FirstLearned, HasNoValue, IsFresh, IsLearned, IsReached, NodeLearns}
+use Rattle.graph_eval.specs.GraphValue.{Meaning, NodeFails, NodeGives, named}
+use Rattle.graph_eval.specs.Learned.{FitsGraph, IsSetFor, joined_length, kind_length, named_length, node_length}
+use Rattle.graph_eval.proofs.EvaluationLaws.{FirstLists-alone, ListsSoFar, ListsSoFar-longer, fails_alone, goes_on}
+use Rattle.graph_eval.proofs.LengthLaws.{LengthsSoFar, LengthsSoFar-none, LengthsSoFar-sets, fits_graph, one_more}
+
+-- what was learned of the first so many nodes
+pub record LearnedSoFar (m : ℕ) (graph : Graph) (inputs : List ℕ) (sets : List (List ℕ)) (lengths : List ℕ) (lists : List (List ℕ)) (count total : ℕ) : Type 0 where
+  pub many : length sets ≡ count
+  pub fits : (n : ℕ) (node : Node) → n < count → slice_get graph.nodes n ≡ Some node → IsSetFor node (slice_index_or sets n [])
+  pub own : IsPrime m → (n : ℕ) (node : Node) → n < count → slice_get graph.nodes n ≡ Some node → NodeLearns m (named inputs (take n lists)) node (slice_index_or sets n [])
+  pub measured : LengthsSoFar graph sets lengths count total
+  pub given : ListsSoFar m graph.nodes inputs sets lengths lists count
+
+pub LearnedSoFar-none : (m : ℕ) (graph : Graph) (inputs : List ℕ) → LearnedSoFar m graph inputs [] [] [] 0 0
+LearnedSoFar-none m graph inputs = record {
+  many = refl;
+  fits = λ n node below is. absurd (omega arith);
+  own = λ prime n node below is. absurd (omega arith);
+  measured = LengthsSoFar-none graph [];
+  given = record {
+    first = λ prime. record { within = omega arith; each = λ n node below is. absurd (omega arith) };
+    many = refl;
+    residues = All-nil (λ list. All (λ x. x < m) list);
+    rooms = refl;
+  };
+}
+
+-- where m is prime they are those of the definition
+first_learned : (m : ℕ) (graph : Graph) (inputs : List ℕ) (sets : List (List ℕ)) (lengths : List ℕ) (lists : List (List ℕ)) (count total : ℕ) → LearnedSoFar m graph inputs sets lengths lists count total → IsPrime m → FirstLearned m no_graphs graph inputs sets lengths lists
+first_learned m graph inputs sets lengths lists count total so_far prime = record {
+  many_sets = so_far.many ∙ sym so_far.given.many;
+  many_lengths = so_far.measured.many ∙ sym so_far.given.many;
+  own = λ n node below is. so_far.own prime n node (omega (arith, so_far.given.many)) is;
+  measured = so_far.measured.first;
+  given = so_far.given.first prime;
+}
+
+-- the lists have the lengths
+pub rooms_are : (m : ℕ) (graph : Graph) (inputs : List ℕ) (sets : List (List ℕ)) (lengths : List ℕ) (lists : List (List ℕ)) (count total : ℕ) → LearnedSoFar m graph inputs sets lengths lists count total → map (λ xs. length xs) lists ≡ lengths
+rooms_are m graph inputs sets lengths lists count total so_far = so_far.given.rooms ∙ ap (λ n. take n lengths) (sym so_far.measured.many) ∙ take-length lengths
+
+-- a node whose length fails is needed
+needed_length : (inputs : ℕ) (earlier set : List ℕ) (node : Node) (needed : Bool) → node.needed ≡ needed → node_length inputs earlier set node ≡ None → IsTrue needed
+needed_length inputs earlier set node true is none = refl
+needed_length inputs earlier set node false is none =
+    let length_if : Bool → Option ℕ = λ b. if b then option_and_then (joined_length earlier) (kind_length inputs earlier set node.kind) else Some 0 in
+    let left_out : length_if false ≡ None = ap length_if (sym is) ∙ none in
+    absurd (some_none left_out)
+  where
+    some_none : ◌≡◌ {A = Option ℕ} (Some 0) None → ⊥
+    some_none same = cc
+
+-- one more set
+module _ (sets more : List (List ℕ)) (set : List ℕ) (joined : more ≡ sets ++ set ∷ []) where
+  set_before : (n : ℕ) → n < length sets → slice_index_or sets n [] ≡ slice_index_or more n []
+  set_before n below = sym (get_or-append sets (set ∷ []) [] n below) ∙ ap (λ ss. slice_index_or ss n []) (sym joined)
+
+  set_here : slice_index_or more (length sets) [] ≡ set
+  set_here = ap (λ ss. slice_index_or ss (length sets) []) joined ∙ get_or-append_seam sets set [] []
+
+-- the next node
+module _ (m : ℕ) (graph : Graph) (inputs : List ℕ) (sets : List (List ℕ)) (lengths : List ℕ) (lists : List (List ℕ)) (place total : ℕ) (node : Node) (set : List ℕ) (so_far : LearnedSoFar m graph inputs sets lengths lists place total) (is : slice_get graph.nodes place ≡ Some node)
+    (own : IsPrime m → NodeLearns m (named inputs lists) node set) (count : ℕ) (count_is : count ≡ length graph.inputs) (earlier : List ℕ) (earlier_is : earlier ≡ lengths) (answer : Option ℕ) (answer_is : answer ≡ node_length count earlier set node) where
+  reached : IsPrime m → IsReached m no_graphs graph inputs place
+  reached prime = record {
+    sets = sets;
+    lengths = lengths;
+    lists = lists;
+    first = first_learned m graph inputs sets lengths lists place total so_far prime;
+    before = so_far.given.many;
+    node = node;
+    is_node = is;
+    set = set;
+    own = own prime;
+  }
+
+  rule : node_length (length graph.inputs) lengths set node ≡ answer
+  rule = ap (λ n. node_length n lengths set node) (sym count_is) ∙ ap (λ ls. node_length count ls set node) (sym earlier_is) ∙ sym answer_is
+
+  pub breaks_here : answer ≡ None → IsPrime m → BreaksLength m no_graphs graph inputs place
+  unfolding reached
+  breaks_here none prime = record { reached = reached prime; breaks = rule ∙ none }
+
+  pub breaks_needed : answer ≡ None → IsNeededNode graph place
+  breaks_needed none = (node, is, needed_length (length graph.inputs) lengths set node node.needed refl (rule ∙ none))
+
+  pub singular_here : (length_is : ℕ) (cause : Cause) → answer ≡ Some length_is → (IsPrime m → NodeFails m no_graphs set (named inputs lists) node cause) → IsPrime m → HasNoValue m no_graphs graph inputs place cause
+  unfolding reached
+  singular_here length_is cause some fails prime = record { reached = reached prime; own_length = length_is; measured = rule ∙ some; fails = fails prime }
+
+  pub learned_more : (own_length : ℕ) (values : List ℕ) (more_sets : List (List ℕ)) (more_lengths : List ℕ) (more_lists : List (List ℕ)) → IsSetFor node set → answer ≡ Some own_length → IfSome answer (λ n. n ≤ 262144) → IfSome answer (λ n. total + n ≤ 2097152)
+      → (IsPrime m → NodeGives m no_graphs set (named inputs lists) node values) → All (λ x. x < m) values → length values ≡ own_length
+      → more_sets ≡ sets ++ set ∷ [] → more_lengths ≡ lengths ++ own_length ∷ [] → more_lists ≡ lists ++ values ∷ [] → LearnedSoFar m graph inputs more_sets more_lengths more_lists (place + 1) (total + own_length)
+  learned_more own_length values more_sets more_lengths more_lists fits some small bound gives low long sets_joined lengths_joined lists_joined =
+      let same : (n : ℕ) → n < place → slice_index_or sets n [] ≡ slice_index_or more_sets n [] = λ n below. set_before sets more_sets set sets_joined n (omega (arith, so_far.many)) in
+      let here : slice_index_or more_sets place [] ≡ set = ap (λ n. slice_index_or more_sets n []) (sym so_far.many) ∙ set_here sets more_sets set sets_joined in
+      let front : take place lengths ≡ take place more_lengths = sym (take-append-le place lengths (own_length ∷ []) (omega (arith, so_far.measured.many))) ∙ ap (take place) (sym lengths_joined) in
+      let room : place < length more_lengths = omega (arith, ap length lengths_joined, length-append lengths (own_length ∷ []), so_far.measured.many) in
+      let at : own_length ≡ get_or more_lengths place 0 =
+      sym (get_or-append_seam lengths own_length [] 0) ∙ ap (λ n. get_or (lengths ++ own_length ∷ []) n 0) so_far.measured.many ∙ ap (λ ls. get_or ls place 0) (sym lengths_joined) in
+      record {
+        many = ap length sets_joined ∙ length-append sets (set ∷ []) ∙ ap (λ n. n + 1) so_far.many;
+        fits = λ n other below other_is. elim (cases_eq n place) [
+          | inl e ↦ subst (λ (k : ℕ). IsSetFor other (slice_index_or more_sets k [])) (sym e) (subst (IsSetFor other) (sym here) (subst (λ (o : Node). IsSetFor o set) (same_node n other e other_is) fits))
+          | inr ne ↦ subst (IsSetFor other) (same n (omega arith)) (so_far.fits n other (omega arith) other_is)
+        ];
+        own = λ prime n other below other_is. elim (cases_eq n place) [
+          | inl e ↦
+              subst (λ (k : ℕ). NodeLearns m (named inputs (take k more_lists)) other (slice_index_or more_sets k [])) (sym e)
+              (subst (λ (ls : List (List ℕ)). NodeLearns m (named inputs ls) other (slice_index_or more_sets place [])) (sym all_before)
+              (subst (λ (s : List ℕ). NodeLearns m (named inputs lists) other s) (sym here)
+              (subst (λ (o : Node). NodeLearns m (named inputs lists) o set) (same_node n other e other_is) (own prime))))
+          | inr ne ↦
+              subst (λ (ls : List (List ℕ)). NodeLearns m (named inputs ls) other (slice_index_or more_sets n [])) (some_before n (omega arith))
+              (subst (NodeLearns m (named inputs (take n lists)) other) (same n (omega arith)) (so_far.own prime n other (omega arith) other_is))
+        ];
+        measured = one_more graph more_sets lengths place total count earlier set node answer (LengthsSoFar-sets graph sets more_sets lengths place total same so_far.measured) is count_is earlier_is here answer_is own_length more_lengths some small bound lengths_joined;
+        given = goes_on m graph.nodes inputs more_sets more_lengths lists more_lists place own_length set node values (ListsSoFar-longer m graph.nodes inputs sets more_sets lengths more_lengths lists place same front so_far.given) is here gives low long room at lists_joined;
+      }
+    where
+      same_node : (n : ℕ) (other : Node) → n ≡ place → slice_get graph.nodes n ≡ Some other → node ≡ other
+      same_node n other e other_is = let both : Some node ≡ Some other = sym is ∙ ap (slice_get graph.nodes) (sym e) ∙ other_is in cc
+
+      all_before : take place more_lists ≡ lists
+      all_before = ap (take place) lists_joined ∙ ap (λ k. take k (lists ++ values ∷ [])) (sym so_far.given.many) ∙ take-append_seam lists (values ∷ [])
+
+      some_before : (n : ℕ) → n < place → take n lists ≡ take n more_lists
+      some_before n below = sym (take-append-le n lists (values ∷ []) (omega (arith, so_far.given.many))) ∙ ap (take n) (sym lists_joined)
+
+-- with every node, all is learned
+module _ (m : ℕ) (graph : Graph) (inputs : List ℕ) (sets : List (List ℕ)) (lengths : List ℕ) (lists : List (List ℕ)) (place total count : ℕ) (learned : GraphLearned) (so_far : LearnedSoFar m graph inputs sets lengths lists place total) (all : place ≡ length graph.nodes) (count_is : count ≡ length graph.inputs)
+    (sets_are : learned.sets ≡ sets) (lengths_are : learned.lengths ≡ lengths) (output_is : learned.output ≡ named_length count lengths graph.output) where
+  pub learned_all : learned.point ≡ None → IsPrime m → IsLearned m no_graphs graph inputs learned
+  learned_all no_point prime = record {
+    lists = lists;
+    first = subst (λ (ss : List (List ℕ)). FirstLearned m no_graphs graph inputs ss learned.lengths lists) (sym sets_are) (subst (λ (ls : List ℕ). FirstLearned m no_graphs graph inputs sets ls lists) (sym lengths_are) (first_learned m graph inputs sets lengths lists place total so_far prime));
+    all = so_far.given.many ∙ all;
+    output = output_is ∙ ap (λ n. named_length n lengths graph.output) count_is ∙ ap (λ ls. named_length (length graph.inputs) ls graph.output) (sym lengths_are);
+    point = no_point;
+  }
+
+  pub learned_fits : FitsGraph graph learned
+  learned_fits = fits_graph graph sets lengths place total count learned so_far.measured all count_is so_far.many so_far.fits sets_are lengths_are output_is
+
+-- what is learned of a graph doesn't rest on other graphs
+first_alone : (m : ℕ) (called : ℕ → Meaning) (graph : Graph) (inputs : List ℕ) (sets : List (List ℕ)) (lengths : List ℕ) (lists : List (List ℕ)) → FirstLearned m no_graphs graph inputs sets lengths lists → FirstLearned m called graph inputs sets lengths lists
+first_alone m called graph inputs sets lengths lists first = record {
+  many_sets = first.many_sets;
+  many_lengths = first.many_lengths;
+  own = first.own;
+  measured = first.measured;
+  given = FirstLists-alone m called sets graph.nodes inputs lists first.given;
+}
+
+reached_alone : (m : ℕ) (called : ℕ → Meaning) (graph : Graph) (inputs : List ℕ) (n : ℕ) → IsReached m no_graphs graph inputs n → IsReached m called graph inputs n
+reached_alone m called graph inputs n is = record {
+  sets = is.sets;
+  lengths = is.lengths;
+  lists = is.lists;
+  first = first_alone m called graph inputs is.sets is.lengths is.lists is.first;
+  before = is.before;
+  node = is.node;
+  is_node = is.is_node;
+  set = is.set;
+  own = is.own;
+}
+
+pub fresh_alone : (m : ℕ) (called : ℕ → Meaning) (graph : Graph) (inputs : List ℕ) (answer : Fresh) → IsFresh m no_graphs graph inputs answer → IsFresh m called graph inputs answer
+unfolding reached_alone
+fresh_alone m called graph inputs (fresh.Learned learned) is = record {
+  lists = is.lists;
+  first = first_alone m called graph inputs learned.sets learned.lengths is.lists is.first;
+  all = is.all;
+  output = is.output;
+  point = is.point;
+}
+fresh_alone m called graph inputs (fresh.Singular singular) is = record {
+  reached = reached_alone m called graph inputs singular.node is.reached;
+  own_length = is.own_length;
+  measured = is.measured;
+  fails = (is.fails.0, fails_alone m called is.reached.set (named inputs is.reached.lists) is.reached.node.kind singular.cause is.fails.1);
+}
+fresh_alone m called graph inputs (fresh.Length node) is = record { reached = reached_alone m called graph inputs node is.reached; breaks = is.breaks }

@@ -1,0 +1,7 @@
+-- What was learned of the nodes so far.
+use Rattle.prime_field.specs.Modulus.{value_of}
+use Rattle.graph_eval.proofs.FreshLaws.{LearnedSoFar}
+use Rattle.graph_eval.proofs.fresh.learn_graph.Given as goal
+
+abbrev pub invariant-loop-place : goal.invariant-loop-place
+invariant-loop-place l = LearnedSoFar (value_of l.m) l.graph l.inputs l.sets.items l.lengths.items l.lists.items l.place l.total

@@ -1,0 +1,6 @@
+-- The laws, for every system.
+use Rattle.graph_eval.proofs.SystemLaws.{own_set_once}
+use Rattle.graph_eval.proofs.laws.one_set.Goals as goal
+
+pub returns-clause-once : goal.returns-clause-once
+returns-clause-once c = own_set_once

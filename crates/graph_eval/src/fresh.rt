@@ -1,0 +1,140 @@
+//! Learning a graph at a point: which unknowns tell the others in each system, and how long each list is.
+
+ghost use Rattle.std.specs.Prelude.{◌≡◌, ◌<◌, All, IfOk, length, slice_get};
+ghost use Rattle.prime_field.specs.Modulus.{value_of};
+ghost use Rattle.prime_field.specs.Residue.{IsPrime};
+ghost use Rattle.graph_file.specs.Sound.{IsGraph, IsKind};
+ghost use Rattle.graph_eval.specs.Evaluated.{HasInputs, no_graphs};
+ghost use Rattle.graph_eval.specs.Fresh.{FitsFresh, FitsFreshAt, IsFresh, IsFreshAt, NodeLearns};
+ghost use Rattle.graph_eval.specs.GraphValue.{named};
+ghost use Rattle.graph_eval.specs.Learned.{FitsFirst, IsSetFor, sets_of};
+
+use crate::evaluation::node_list;
+use crate::kinds::named;
+use crate::learned::{GraphLearned, Learned};
+use crate::lengths::{learned_of, node_length};
+use crate::outcome::Singular;
+use crate::systems::{make_room, own_set};
+use graph_file::{Graph, Job, Node, NodeKind};
+use poly_maps::Point;
+use prime_field::Modulus;
+use ratfun_text::NoMemory;
+use sqlite_items::Items;
+use std::alloc::Global;
+
+/// What learning a graph gives.
+#[derive(Debug, Drop)]
+pub enum Fresh {
+    /// What was learned.
+    Learned(GraphLearned),
+    /// The first node that fails, which has a length and no value at the point.
+    Singular(Singular),
+    /// The first node that fails, by its place counted from 0, whose length breaks a rule.
+    Length { node: u32 },
+}
+
+/// The set of a node on the lists before it: the independent unknowns of its own system, or nothing where it isn't needed,
+/// where it solves no system, or where the list that it names hasn't as many entries as the system.
+pub(crate) fn node_set(
+    alloc: Global,
+    m: Modulus,
+    node: &Node,
+    inputs: &[u64],
+    lists: &[Items<u64>],
+    words: &mut Vec<u64>,
+) -> Result<Items<u32>, NoMemory>
+    requires sound { IsKind (length inputs.now) (length lists.now) node.now.kind }
+    requires residues { All (λ x. x < value_of m) inputs.now }
+    requires earlier { All (All (λ x. x < value_of m)) lists.now }
+    ensures own { IfOk result (λ set. IsPrime (value_of m) → NodeLearns (value_of m) (named inputs.now lists.now) node.now set) }
+    ensures fits { IfOk result (IsSetFor node.now) }
+{
+    if !node.needed {
+        return Ok(Items::new(alloc));
+    }
+    let NodeKind::Dense {
+        from,
+        rows,
+        unknowns,
+        ..
+    } = &node.kind
+    else {
+        return Ok(Items::new(alloc));
+    };
+    let list = named(inputs, lists, *from);
+    let (rows, unknowns) = (*rows as usize, *unknowns as usize);
+    if list.len() != rows * (unknowns + 1) {
+        return Ok(Items::new(alloc));
+    }
+    make_room(&node.kind, words)?;
+    own_set(alloc, m, rows, unknowns, list, words.as_mut_slice())
+}
+
+/// What is learned of a graph that calls no other at these inputs.
+fn learn_graph(alloc: Global, m: Modulus, graph: &Graph, inputs: &[u64]) -> Result<Fresh, NoMemory>
+    requires sound { IsGraph graph.now }
+    requires residues { All (λ x. x < value_of m) inputs.now }
+    requires entries { length inputs.now ≡ length graph.now.inputs }
+    ensures fresh { IfOk result (λ fresh. IsPrime (value_of m) → IsFresh (value_of m) no_graphs graph.now inputs.now fresh) }
+    ensures fits { IfOk result (FitsFresh graph.now) }
+{
+    let mut words = Vec::new(alloc);
+    let mut sets = Vec::new(alloc);
+    let mut lengths = Vec::new(alloc);
+    let mut lists = Vec::new(alloc);
+    let mut total = 0;
+    for (place, node) in graph.nodes.as_slice().iter().enumerate() {
+        let set = node_set(alloc, m, node, inputs, lists.as_slice(), &mut words)?;
+        let earlier = lengths.as_slice();
+        let Some(own) = node_length(alloc, node, set.as_slice(), inputs.len(), earlier, total)?
+        else {
+            return Ok(Fresh::Length { node: place as u32 });
+        };
+        match node_list(
+            alloc,
+            m,
+            node,
+            set.as_slice(),
+            own as usize,
+            inputs,
+            lists.as_slice(),
+            &mut words,
+        )? {
+            Ok(list) => lists.push(list)?,
+            Err(cause) => {
+                return Ok(Fresh::Singular(Singular {
+                    node: place as u32,
+                    cause,
+                }));
+            }
+        }
+        sets.push(set)?;
+        lengths.push(own)?;
+        total += own as usize;
+    }
+    let sets = Items::from_vec(sets);
+    Ok(Fresh::Learned(learned_of(inputs.len(), graph.output, lengths, sets)))
+}
+
+/// What is learned of the graph with this number, counted from 0, at a point: its first node that fails decides, and where
+/// none fails each solver has the independent unknowns of its own system there. What was learned of the graphs before it
+/// is known.
+pub fn fresh_point(
+    alloc: Global,
+    job: &Job,
+    learned: &Learned,
+    graph: u32,
+    m: Modulus,
+    point: &Point,
+) -> Result<Fresh, NoMemory>
+    requires there { graph < length job.now.graphs }
+    requires before { FitsFirst job.now.graphs learned.now graph }
+    requires entries { HasInputs (slice_get job.now.graphs graph) point.now }
+    ensures fresh { IfOk result (λ fresh. IsPrime (value_of m) → IsFreshAt (value_of m) job.now.graphs (sets_of learned.now) graph point.now fresh) }
+    ensures fits { IfOk result (FitsFreshAt job.now.graphs graph) }
+{
+    // No kind of node rests on another graph, so what was learned of earlier ones isn't read.
+    let _earlier = learned;
+    let graph = &job.graphs.as_slice()[graph as usize];
+    Ok(learn_graph(alloc, m, graph, point.entries())?)
+}

@@ -1,0 +1,5 @@
+pub mod OneLesson
+pub mod Places
+pub mod PointLaws
+pub mod Taking
+pub mod Trying
