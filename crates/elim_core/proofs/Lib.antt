@@ -12,3 +12,6 @@ pub mod EntryRows
 pub mod Columns
 pub mod Solvers
 pub mod Sets
+pub mod SameSolutions
+pub mod OwnSets
+pub mod KeptRows

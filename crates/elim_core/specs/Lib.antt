@@ -3,3 +3,5 @@ pub mod Layout
 pub mod Rows
 pub mod Solution
 pub mod Solver
+pub mod Solved
+pub mod Sparse

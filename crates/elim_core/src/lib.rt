@@ -10,6 +10,7 @@ ghost use Rattle.std.specs.Bool.{OnTrue, OnFalse};
 ghost use Rattle.prime_field.specs.Modulus.{value_of};
 ghost use Rattle.elim_core.specs.Kept.{unknowns_of, modulus_of, kept_rows, rows_of, ends_of, work_of, Belongs, IsAbsorbed, HasSolution, row_with, IsFree};
 ghost use Rattle.elim_core.specs.Layout.{IsLaidOut, IsRow, IsSpan};
+ghost use Rattle.elim_core.specs.Rows.{chosen_value};
 ghost use Rattle.elim_core.specs.Solution.{IsSolution, IsIndependent};
 ghost use Rattle.elim_core.specs.Solver.{IsAscending, AreUnknowns, ListsIndependent, IsCoefficient, IsSolverList, HasSolverValue};
 ghost use Rattle.prime_field.specs.Residue.{IsPrime};
@@ -24,8 +25,10 @@ mod lent;
 mod solver;
 mod substitution;
 
+use choice::write_choice;
 use elimination::Lead;
 use solver::{free_value, list_empty};
+use substitution::back_substitute;
 
 #[cfg(test)]
 mod tests;
@@ -195,6 +198,23 @@ impl Elim {
         }
         let sum = free_value(self.modulus, self.unknowns, rows, ends, k, j as usize - 1);
         self.modulus.sub(sum, constant)
+    }
+
+    /// Writes the solution at which the independent unknown `chosen` is 1 and the other independent ones are 0; all of them
+    /// are 0 where `chosen` is 0.
+    pub fn solution(&self, words: &[u64], chosen: u32, out: &mut [u64])
+        requires belongs { Belongs self.now words.now }
+        requires solvable { HasSolution (modulus_of self.now) (unknowns_of self.now) (kept_rows self.now words.now) }
+        requires room { length out.old ≡ unknowns_of self.now }
+        ensures solves { IsSolution (modulus_of self.now) (unknowns_of self.now) (kept_rows self.now words.now) out.new }
+        ensures chosen { (k : ℕ) → k < unknowns_of self.now →
+            IsIndependent (modulus_of self.now) (unknowns_of self.now) (kept_rows self.now words.now) k →
+            slice_index out.new k ≡ chosen_value chosen (k + 1) }
+    {
+        let rows = lent::rows_in(self.unknowns, words);
+        let ends = lent::ends_in(self.unknowns, words);
+        write_choice(out, chosen);
+        back_substitute(self.modulus, self.unknowns, rows, ends, out);
     }
 
     /// Writes the solver list over the set, for each wanted unknown the numbers for those of the set and then the constant, or

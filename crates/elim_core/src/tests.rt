@@ -1,6 +1,6 @@
 //! Systems whose solutions are known.
 
-ghost use Rattle.std.specs.Prelude.{◌≡◌, ◌<◌, ◌≤◌};
+ghost use Rattle.std.specs.Prelude.{◌≡◌, ◌<◌, ◌≤◌, length};
 ghost use Rattle.elim_core.specs.Kept.{unknowns_of, modulus_of, kept_rows, Belongs, HasSolution};
 
 use super::*;
@@ -163,6 +163,31 @@ fn a_later_unknown_tells_the_first_by_its_multiple(rt: HostRuntime) {
         by_the_first(&elim, &words, 1),
         Some((2, 2305843009213693949))
     );
+}
+
+/// The solution at which the second of three unknowns is 1, and the other independent ones are 0.
+fn with_the_second(equations: &Elim, words: &[u64], out: &mut [u64])
+    requires belongs { Belongs equations.now words.now }
+    requires solvable { HasSolution (modulus_of equations.now) (unknowns_of equations.now) (kept_rows equations.now words.now) }
+    requires room { length out.old ≡ unknowns_of equations.now }
+{
+    equations.solution(words, 2, out);
+}
+
+#[test]
+fn a_solution_for_a_choice(rt: HostRuntime) {
+    let mut words = [7; 35];
+    let mut elim = Elim::start(Modulus::first(), 3, &mut words);
+    let mut out = [7; 3];
+    assert_eq!(rt; elim.absorb(&mut words, &[1, 2, 3, 4]), Rank::New);
+    with_the_second(&elim, &words, &mut out);
+    assert_eq!(rt; out, [2, 1, 0]);
+    assert_eq!(rt;
+        elim.absorb_entries(&mut words, &[0, 3], &[5, 1]),
+        Rank::New
+    );
+    with_the_second(&elim, &words, &mut out);
+    assert_eq!(rt; out, [2305843009213693938, 1, 5]);
 }
 
 fn may_be_shared<T: Send + Sync>(_value: &T) {}
