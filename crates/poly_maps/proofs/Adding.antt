@@ -12,10 +12,10 @@ use Rattle.std.specs.Ordering.{ordering_index, is_lt}
 use Rattle.std.specs.List.{AllWithin}
 use Rattle.std.specs.declared.cmp.Ordering.TheVariants.{Less, Greater}
 use Rattle.poly_maps.specs.Mono.{mono_cmp, is_same, HasEight}
-use Rattle.poly_maps.specs.Polynomial.{coefficient, AreLess, IsNormal, AreResidues, IsPolynomial}
+use Rattle.poly_maps.specs.Polynomial.{coefficient, AreLess, AreAbove, Descends, IsNormal, AreResidues, IsPolynomial}
 use Rattle.poly_maps.specs.Places.{IsThere, BelongsAt, AddsTerm}
 use Rattle.poly_maps.proofs.MonoLemmas.{mono_total, mono_tied, mono_flip, mono_flip_less, is_same-true, is_same-itself}
-use Rattle.poly_maps.proofs.Terms.{AreAbove, coefficient-append, coefficient-above, coefficient-less, coefficient-residue, coefficient-inserted, IsNormal-inserted, IsNormal-removed, AreResidues-inserted, AreResidues-removed, Supported-inserted, Supported-removed}
+use Rattle.poly_maps.proofs.Terms.{coefficient-append, coefficient-above, coefficient-less, coefficient-residue, coefficient-inserted, IsNormal-inserted, IsNormal-removed, AreResidues-inserted, AreResidues-removed, Supported-inserted, Supported-removed}
 
 -- the front and the back of a list without a term for e
 pub record IsGap (m : ℕ) (front back : List (List ℕ × ℕ)) (e : List ℕ) : Type 0 where
@@ -81,13 +81,13 @@ adds_nothing m terms e some polynomial residues = record {
 
 -- ---- the gap at a place
 
-AreAbove-take : (terms : List (List ℕ × ℕ)) (e : List ℕ) (place : ℕ) → place ≤ length terms → AllWithin (λ t. mono_cmp e t.0 ≡ Less) terms 0 place → AreAbove e (take place terms)
+pub AreAbove-take : {A : Type 0} (terms : List (List ℕ × A)) (e : List ℕ) (place : ℕ) → place ≤ length terms → AllWithin (λ t. mono_cmp e t.0 ≡ Less) terms 0 place → AreAbove e (take place terms)
 AreAbove-take terms e zero low above = tt
 AreAbove-take [] e (suc place) low above = tt
 AreAbove-take (t ∷ terms) e (suc place) low above =
     (above 0 t (omega arith) (omega arith), AreAbove-take terms e place (omega arith) (λ k d from to. above (suc k) d (omega arith) (omega arith)))
 
-AreLess-drop : (terms : List (List ℕ × ℕ)) (e : List ℕ) (place : ℕ) → AllWithin (λ t. mono_cmp e t.0 ≡ Greater) terms place (length terms) → AreLess (drop place terms) e
+pub AreLess-drop : {A : Type 0} (terms : List (List ℕ × A)) (e : List ℕ) (place : ℕ) → AllWithin (λ t. mono_cmp e t.0 ≡ Greater) terms place (length terms) → AreLess (drop place terms) e
 AreLess-drop [] e zero less = tt
 AreLess-drop [] e (suc place) less = tt
 AreLess-drop (t ∷ terms) e zero less =
@@ -107,7 +107,7 @@ gap-belongs m terms e place polynomial residues belongs =
     }
 
 -- terms split at the place where e is
-pub split-there : (terms : List (List ℕ × ℕ)) (e : List ℕ) (place : ℕ) (d : List ℕ × ℕ) → IsThere terms e place → terms ≡ take place terms ++ (e, (get_or terms place d).1) ∷ drop (suc place) terms
+pub split-there : {A : Type 0} (terms : List (List ℕ × A)) (e : List ℕ) (place : ℕ) (d : List ℕ × A) → IsThere terms e place → terms ≡ take place terms ++ (e, (get_or terms place d).1) ∷ drop (suc place) terms
 split-there [] e place d there = absurd (omega (arith, there.0))
 split-there (t ∷ terms) e zero d there = λ i. (there.1 d i, t.1) ∷ terms
 split-there (t ∷ terms) e (suc place) d there = ap (λ p. t ∷ p) (split-there terms e place d (omega (arith, there.0), λ d. there.1 d))
@@ -159,29 +159,29 @@ adds_insert m terms e place c some eight polynomial residues belongs low filled 
 
 -- ---- the search for a place
 
-normal-adjacent : (terms : List (List ℕ × ℕ)) (k : ℕ) (d : List ℕ × ℕ) → IsNormal terms → k + 1 < length terms → mono_cmp (get_or terms k d).0 (get_or terms (k + 1) d).0 ≡ Greater
-normal-adjacent [] k d normal low = absurd (omega arith)
-normal-adjacent (t ∷ []) k d normal low = absurd (omega arith)
-normal-adjacent (t ∷ u ∷ terms) zero d normal low = mono_flip_less u.0 t.0 normal.1.0
-normal-adjacent (t ∷ u ∷ terms) (suc k) d normal low =
-    subst (λ n. mono_cmp (get_or (t ∷ u ∷ terms) (suc k) d).0 (get_or (t ∷ u ∷ terms) n d).0 ≡ Greater) step (normal-adjacent (u ∷ terms) k d normal.2 (omega arith))
+adjacent : {A : Type 0} (terms : List (List ℕ × A)) (k : ℕ) (d : List ℕ × A) → Descends terms → k + 1 < length terms → mono_cmp (get_or terms k d).0 (get_or terms (k + 1) d).0 ≡ Greater
+adjacent [] k d descends low = absurd (omega arith)
+adjacent (t ∷ []) k d descends low = absurd (omega arith)
+adjacent (t ∷ u ∷ terms) zero d descends low = mono_flip_less u.0 t.0 descends.0.0
+adjacent (t ∷ u ∷ terms) (suc k) d descends low =
+    subst (λ n. mono_cmp (get_or (t ∷ u ∷ terms) (suc k) d).0 (get_or (t ∷ u ∷ terms) n d).0 ≡ Greater) step (adjacent (u ∷ terms) k d descends.1 (omega arith))
   where
     step : suc (k + 1) ≡ suc k + 1
     step = omega arith
 
--- the answers of comparisons with e rise along normal terms
-pub rises : (terms : List (List ℕ × ℕ)) (e : List ℕ) → IsNormal terms → IsNonDecreasingBy (λ t. ordering_index (mono_cmp e t.0)) terms
-rises terms e normal =
-    searchable_from_sorted (back_total mono_total) (λ t. t.0) terms e (λ k d _ low. ap is_lt (normal-adjacent terms k d normal low))
+-- the answers of comparisons with e rise along descending terms
+pub rises : {A : Type 0} (terms : List (List ℕ × A)) (e : List ℕ) → Descends terms → IsNonDecreasingBy (λ t. ordering_index (mono_cmp e t.0)) terms
+rises terms e descends =
+    searchable_from_sorted (back_total mono_total) (λ t. t.0) terms e (λ k d _ low. ap is_lt (adjacent terms k d descends low))
 
-pub found : (terms : List (List ℕ × ℕ)) (e : List ℕ) (r : Result ℕ ℕ) → IsSearchInRange r (length terms) → IsBinarySearchResult (λ t. mono_cmp e t.0) terms r → IfOk r (IsThere terms e)
+pub found : {A : Type 0} (terms : List (List ℕ × A)) (e : List ℕ) (r : Result ℕ ℕ) → IsSearchInRange r (length terms) → IsBinarySearchResult (λ t. mono_cmp e t.0) terms r → IfOk r (IsThere terms e)
 found terms e (Ok place) within is = (within, λ d. sym (mono_tied e _ (is d)))
 found terms e (Err place) within is = tt
 
-pub not_found : (terms : List (List ℕ × ℕ)) (e : List ℕ) (r : Result ℕ ℕ) → IsNormal terms → IsSearchInRange r (length terms) → IsBinarySearchResult (λ t. mono_cmp e t.0) terms r → IfErr r (BelongsAt terms e)
-not_found terms e (Ok place) normal within is = tt
-not_found terms e (Err place) normal within is =
-    let parts = is (rises terms e normal) in (within, parts.0, parts.1)
+pub not_found : {A : Type 0} (terms : List (List ℕ × A)) (e : List ℕ) (r : Result ℕ ℕ) → Descends terms → IsSearchInRange r (length terms) → IsBinarySearchResult (λ t. mono_cmp e t.0) terms r → IfErr r (BelongsAt terms e)
+not_found terms e (Ok place) descends within is = tt
+not_found terms e (Err place) descends within is =
+    let parts = is (rises terms e descends) in (within, parts.0, parts.1)
 
 -- ---- coefficients by places
 

@@ -1,6 +1,7 @@
 pub mod Adding
 pub mod Enumerated
 pub mod Expanding
+pub mod Fractions
 pub mod Gathered
 pub mod Leading
 pub mod Linear
@@ -14,6 +15,7 @@ pub mod PointLemmas
 pub mod PowerLemmas
 pub mod ProductDegrees
 pub mod Rays
+pub mod Reductions
 pub mod Terms
 pub mod Univariate
 pub mod Within

@@ -341,7 +341,7 @@ moved_back m n s p places low =
 -- ---- a polynomial that is another one moved
 
 -- a coefficient that isn't 0 stands at a monomial of the polynomial
-supported-coefficient : (L : List ℕ → Type 0) (p : List (List ℕ × ℕ)) (e : List ℕ) → Supported L p → coefficient e p ≢ 0 → L e
+pub supported-coefficient : (L : List ℕ → Type 0) (p : List (List ℕ × ℕ)) (e : List ℕ) → Supported L p → coefficient e p ≢ 0 → L e
 supported-coefficient L [] e all some = absurd (some refl)
 supported-coefficient L (t ∷ p) e all some = by (is_same t.0 e) refl (supported-coefficient L p e all.1)
   where

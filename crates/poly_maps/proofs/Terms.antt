@@ -2,7 +2,7 @@
 use Rattle.std.proofs.Common.{◌≡◌, ◌≢◌, ℕ, zero, suc, ◌+◌, ◌<◌, ◌≤◌, Bool, true, false, if◌then◌else◌, Some, None, slice_get, List, [], ◌∷◌, ◌++◌, length, get_or, refl, ap, ◌∙◌, subst, arith}
 use Rattle.std.specs.declared.cmp.Ordering.TheVariants.{Less}
 use Rattle.poly_maps.specs.Mono.{degree, mono_cmp, is_same}
-use Rattle.poly_maps.specs.Polynomial.{coefficient, value_at, AreLess, IsNormal, AreResidues, Supported, total_degree}
+use Rattle.poly_maps.specs.Polynomial.{coefficient, value_at, AreLess, AreAbove, Descends, IsNormal, AreResidues, Supported, total_degree}
 use Rattle.poly_maps.proofs.MonoLemmas.{mono_total, mono_degree, is_same-true, is_same-less, is_same-symm}
 
 pub coefficient-append : (e : List ℕ) (p q : List (List ℕ × ℕ)) → coefficient e (p ++ q) ≡ coefficient e p + coefficient e q
@@ -12,11 +12,6 @@ coefficient-append e (t ∷ p) q = omega (arith, coefficient-append e p q)
 pub value_at-append : (p q : List (List ℕ × ℕ)) (x : List ℕ) → value_at (p ++ q) x ≡ value_at p x + value_at q x
 value_at-append [] q x = omega arith
 value_at-append (t ∷ p) q x = omega (arith, value_at-append p q x)
-
--- each monomial is above e
-abbrev pub AreAbove : List ℕ → List (List ℕ × ℕ) → Type 0
-AreAbove e [] = Unit {0}
-AreAbove e (t ∷ p) = (mono_cmp e t.0 ≡ Less) × AreAbove e p
 
 -- monomials below e, or above it, aren't e
 pub coefficient-less : (p : List (List ℕ × ℕ)) (e : List ℕ) → AreLess p e → coefficient e p ≡ 0
@@ -29,11 +24,11 @@ coefficient-above e [] above = refl
 coefficient-above e (t ∷ p) above =
     ap (λ b. (if b then t.1 else 0) + coefficient e p) (is_same-symm t.0 e ∙ is_same-less e t.0 above.0) ∙ omega (arith, coefficient-above e p above.1)
 
-pub AreLess-trans : (p : List (List ℕ × ℕ)) (e f : List ℕ) → AreLess p e → mono_cmp e f ≡ Less → AreLess p f
+pub AreLess-trans : {A : Type 0} (p : List (List ℕ × A)) (e f : List ℕ) → AreLess p e → mono_cmp e f ≡ Less → AreLess p f
 AreLess-trans [] e f less below = tt
 AreLess-trans (t ∷ p) e f less below = (mono_total.trans t.0 e f less.0 below, AreLess-trans p e f less.1 below)
 
-pub AreLess-append : (p q : List (List ℕ × ℕ)) (e : List ℕ) → AreLess p e → AreLess q e → AreLess (p ++ q) e
+pub AreLess-append : {A : Type 0} (p q : List (List ℕ × A)) (e : List ℕ) → AreLess p e → AreLess q e → AreLess (p ++ q) e
 AreLess-append [] q e less rest = rest
 AreLess-append (t ∷ p) q e less rest = (less.0, AreLess-append p q e less.1 rest)
 
@@ -64,14 +59,24 @@ pub coefficient-inserted : (g : List ℕ) (front back : List (List ℕ × ℕ)) 
 coefficient-inserted g [] back t = omega arith
 coefficient-inserted g (u ∷ front) back t = omega (arith, coefficient-inserted g front back t)
 
-pub AreLess-removed : (front back : List (List ℕ × ℕ)) (t : List ℕ × ℕ) (e : List ℕ) → AreLess (front ++ t ∷ back) e → (mono_cmp t.0 e ≡ Less) × AreLess (front ++ back) e
+pub AreLess-removed : {A : Type 0} (front back : List (List ℕ × A)) (t : List ℕ × A) (e : List ℕ) → AreLess (front ++ t ∷ back) e → (mono_cmp t.0 e ≡ Less) × AreLess (front ++ back) e
 AreLess-removed [] back t e less = (less.0, less.1)
 AreLess-removed (u ∷ front) back t e less =
     let rest = AreLess-removed front back t e less.1 in (rest.0, (less.0, rest.1))
 
-pub AreLess-inserted : (front back : List (List ℕ × ℕ)) (t : List ℕ × ℕ) (e : List ℕ) → AreLess (front ++ back) e → mono_cmp t.0 e ≡ Less → AreLess (front ++ t ∷ back) e
+pub AreLess-inserted : {A : Type 0} (front back : List (List ℕ × A)) (t : List ℕ × A) (e : List ℕ) → AreLess (front ++ back) e → mono_cmp t.0 e ≡ Less → AreLess (front ++ t ∷ back) e
 AreLess-inserted [] back t e less below = (below, less)
 AreLess-inserted (u ∷ front) back t e less below = (less.0, AreLess-inserted front back t e less.1 below)
+
+-- what is said of monomials alone holds of normal polynomials
+pub IsNormal-descends : (p : List (List ℕ × ℕ)) → IsNormal p → Descends p
+IsNormal-descends [] normal = tt
+IsNormal-descends (t ∷ p) normal = (normal.1, IsNormal-descends p normal.2)
+
+pub Descends-inserted : {A : Type 0} (front back : List (List ℕ × A)) (t : List ℕ × A) → Descends (front ++ back) → AreAbove t.0 front → AreLess back t.0 → Descends (front ++ t ∷ back)
+Descends-inserted [] back t descends above less = (less, descends)
+Descends-inserted (u ∷ front) back t descends above less =
+    (AreLess-inserted front back t u.0 descends.0 above.0, Descends-inserted front back t descends.1 above.1 less)
 
 pub IsNormal-inserted : (front back : List (List ℕ × ℕ)) (t : List ℕ × ℕ) → IsNormal (front ++ back) → AreAbove t.0 front → AreLess back t.0 → t.1 ≢ 0 → IsNormal (front ++ t ∷ back)
 IsNormal-inserted [] back t normal above less some = (some, less, normal)
@@ -94,16 +99,16 @@ AreResidues-removed m [] back t residues = (residues.1, residues.0)
 AreResidues-removed m (u ∷ front) back t residues =
     let rest = AreResidues-removed m front back t residues.1 in ((residues.0, rest.0), rest.1)
 
-pub Supported-inserted : (L : List ℕ → Type 0) (front back : List (List ℕ × ℕ)) (t : List ℕ × ℕ) → Supported L (front ++ back) → L t.0 → Supported L (front ++ t ∷ back)
+pub Supported-inserted : {A : Type 0} (L : List ℕ → Type 0) (front back : List (List ℕ × A)) (t : List ℕ × A) → Supported L (front ++ back) → L t.0 → Supported L (front ++ t ∷ back)
 Supported-inserted L [] back t within here = (here, within)
 Supported-inserted L (u ∷ front) back t within here = (within.0, Supported-inserted L front back t within.1 here)
 
-pub Supported-removed : (L : List ℕ → Type 0) (front back : List (List ℕ × ℕ)) (t : List ℕ × ℕ) → Supported L (front ++ t ∷ back) → Supported L (front ++ back) × L t.0
+pub Supported-removed : {A : Type 0} (L : List ℕ → Type 0) (front back : List (List ℕ × A)) (t : List ℕ × A) → Supported L (front ++ t ∷ back) → Supported L (front ++ back) × L t.0
 Supported-removed L [] back t within = (within.1, within.0)
 Supported-removed L (u ∷ front) back t within =
     let rest = Supported-removed L front back t within.1 in ((within.0, rest.0), rest.1)
 
-pub Supported-append : (L : List ℕ → Type 0) (p q : List (List ℕ × ℕ)) → Supported L p → Supported L q → Supported L (p ++ q)
+pub Supported-append : {A : Type 0} (L : List ℕ → Type 0) (p q : List (List ℕ × A)) → Supported L p → Supported L q → Supported L (p ++ q)
 Supported-append L [] q within rest = rest
 Supported-append L (t ∷ p) q within rest = (within.0, Supported-append L p q within.1 rest)
 

@@ -1,6 +1,8 @@
 pub mod Bound
 pub mod Enumeration
 pub mod Expansion
+pub mod Forcing
+pub mod Fraction
 pub mod Mono
 pub mod Moved
 pub mod Pair
@@ -8,5 +10,7 @@ pub mod Places
 pub mod Point
 pub mod Polynomial
 pub mod Powers
+pub mod Quotient
+pub mod Reduced
 pub mod Shifted
 pub mod Univariate

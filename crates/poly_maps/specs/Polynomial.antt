@@ -14,10 +14,20 @@ abbrev pub value_at : List (List ℕ × ℕ) → List ℕ → ℕ
 value_at [] x = 0
 value_at (t ∷ p) x = t.1 * mono_value t.0 x + value_at p x
 
--- each monomial is below e
-abbrev pub AreLess : List (List ℕ × ℕ) → List ℕ → Type 0
+-- each monomial is below e, whatever the coefficients are
+abbrev pub AreLess : {A : Type 0} → List (List ℕ × A) → List ℕ → Type 0
 AreLess [] e = Unit {0}
 AreLess (t ∷ p) e = (mono_cmp t.0 e ≡ Less) × AreLess p e
+
+-- each monomial is above e
+abbrev pub AreAbove : {A : Type 0} → List ℕ → List (List ℕ × A) → Type 0
+AreAbove e [] = Unit {0}
+AreAbove e (t ∷ p) = (mono_cmp e t.0 ≡ Less) × AreAbove e p
+
+-- monomials descend, whatever the coefficients are
+abbrev pub Descends : {A : Type 0} → List (List ℕ × A) → Type 0
+Descends [] = Unit {0}
+Descends (t ∷ p) = AreLess p t.0 × Descends p
 
 -- monomials descend, and no coefficient is zero
 abbrev pub IsNormal : List (List ℕ × ℕ) → Type 0
@@ -29,8 +39,8 @@ abbrev pub AreResidues : ℕ → List (List ℕ × ℕ) → Type 0
 AreResidues m [] = Unit {0}
 AreResidues m (t ∷ p) = (t.1 < m) × AreResidues m p
 
--- each monomial is in L
-abbrev pub Supported : (List ℕ → Type 0) → List (List ℕ × ℕ) → Type 0
+-- each monomial is in L, whatever the coefficients are
+abbrev pub Supported : {A : Type 0} → (List ℕ → Type 0) → List (List ℕ × A) → Type 0
 Supported L [] = Unit {0}
 Supported L (t ∷ p) = L t.0 × Supported L p
 
@@ -67,6 +77,6 @@ degree_in i [] = 0
 degree_in i (t ∷ p) = max (slice_index t.0 i) (degree_in i p)
 
 -- the first monomial of a list, which is the greatest where they descend
-abbrev pub leading : List (List ℕ × ℕ) → Option (List ℕ)
+abbrev pub leading : {A : Type 0} → List (List ℕ × A) → Option (List ℕ)
 leading [] = None
 leading (t ∷ p) = Some t.0

@@ -6,6 +6,8 @@ ghost use Rattle.prime_field.specs.Residue.{IsUnit};
 ghost use Rattle.poly_maps.specs.declared.bound.Bound.{Bound};
 ghost use Rattle.poly_maps.specs.declared.pair.Pair.{Pair};
 ghost use Rattle.poly_maps.specs.Bound.{IsWithin};
+ghost use Rattle.poly_maps.specs.declared.fraction.Frac.{Frac};
+ghost use Rattle.poly_maps.specs.Fraction.{IsRational, fraction_at};
 ghost use Rattle.poly_maps.specs.Mono.{mono_cmp};
 ghost use Rattle.poly_maps.specs.Pair.{Agrees, CrossEqual};
 ghost use Rattle.poly_maps.specs.Polynomial.{coefficient, value_at, leading, product_of, total_degree, degree_in, IsPolynomial};
@@ -14,6 +16,11 @@ ghost use Rattle.poly_maps.specs.Univariate.{IsTrimmed};
 /// A polynomial is pinned by its coefficients.
 pub fn coefficients_pin()
     ensures { (p q : List (List ℕ × ℕ)) → IsPolynomial p → IsPolynomial q → ((e : List ℕ) → coefficient e p ≡ coefficient e q) → p ≡ q }
+{}
+
+/// A polynomial over the rational numbers is pinned by its fractions.
+pub fn fractions_pin()
+    ensures { (p q : List (List ℕ × Frac)) → IsRational p → IsRational q → ((e : List ℕ) → fraction_at e p ≡ fraction_at e q) → p ≡ q }
 {}
 
 /// A list of numbers without a zero at the end is pinned by its entries, where those past the end are 0.

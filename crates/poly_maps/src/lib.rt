@@ -4,13 +4,17 @@
 mod bound;
 mod degrees;
 mod enumeration;
+mod fraction;
 mod laws;
 mod mono;
+mod mono_values;
 mod moving;
 mod pair;
 mod point;
 mod poly;
 mod powers;
+mod quotient;
+mod rational;
 mod ray;
 mod shift;
 mod term_list;
@@ -19,15 +23,19 @@ mod zeros;
 pub use bound::{Bound, Bounds};
 pub use degrees::{product_degrees, product_degrees_at_most};
 pub use enumeration::monomials;
+pub use fraction::Frac;
 pub use laws::{
-    coefficients_pin, congruent_values, cross_equality, entries_pin, leading_is_greatest,
-    members_pin, product_value, sums, within_by_degrees,
+    coefficients_pin, congruent_values, cross_equality, entries_pin, fractions_pin,
+    leading_is_greatest, members_pin, product_value, sums, within_by_degrees,
 };
 pub use mono::Mono;
+pub use mono_values::monomial_values;
 pub use moving::{moved_degrees, moved_there_and_back, moved_value, ray_value};
 pub use pair::Pair;
 pub use point::Point;
 pub use poly::Poly;
+pub use quotient::Quotient;
+pub use rational::RatPoly;
 pub use zeros::few_zeros;
 
 /// Memory ran out.

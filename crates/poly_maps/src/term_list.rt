@@ -3,15 +3,15 @@
 ghost use Rattle.std.specs.Prelude.{◌≡◌, ◌+◌, ◌<◌, ◌++◌, All, OnOk, OnErr, IfOk, IfErr};
 ghost use Rattle.prime_field.specs.Modulus.{value_of};
 ghost use Rattle.poly_maps.specs.Mono.{degree};
-ghost use Rattle.poly_maps.specs.Polynomial.{term_times, reduced, AreResidues, IsPolynomial};
+ghost use Rattle.poly_maps.specs.Polynomial.{term_times, reduced, AreResidues, Descends, IsPolynomial};
 ghost use Rattle.poly_maps.specs.Places.{IsThere, BelongsAt, AddsTerm};
 
 use crate::{Mono, NoMemory};
 use prime_field::Modulus;
 
 /// The place of the monomial among the terms, or the place where its term belongs.
-pub(crate) fn place(terms: &[(Mono, u64)], mono: &Mono) -> Result<usize, usize>
-    requires { IsPolynomial terms.now }
+pub(crate) fn place<C>(terms: &[(Mono, C)], mono: &Mono) -> Result<usize, usize>
+    requires { Descends terms.now }
     ensures there { IfOk result (IsThere terms.now mono.now) }
     ensures belongs { IfErr result (BelongsAt terms.now mono.now) }
 {

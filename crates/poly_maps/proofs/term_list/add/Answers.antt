@@ -2,9 +2,12 @@ use Rattle.std.proofs.Common.{◌<◌, ◌+◌, ◌%◌, ap, sym, ◌∙◌, sub
 use Rattle.prime_field.specs.Modulus.{value_of}
 use Rattle.prime_field.proofs.Moduli.{value_of-large}
 use Rattle.poly_maps.specs.Places.{AddsTerm}
-use Rattle.poly_maps.proofs.Terms.{residue-at}
+use Rattle.poly_maps.proofs.Terms.{residue-at, IsNormal-descends}
 use Rattle.poly_maps.proofs.Adding.{adds_set, adds_remove, adds_insert, adds_nothing}
 use Rattle.poly_maps.proofs.term_list.add.Goals as goal
+
+pub place-requires : goal.place-requires
+place-requires c = rw c.deref.ensures.value (IsNormal-descends c.args.terms.now.items c.requires.polynomial.0)
 
 pub add-sum-requires-clause-left : goal.add-sum-requires-clause-left
 add-sum-requires-clause-left c =

@@ -1,7 +1,11 @@
 use Rattle.std.proofs.Common.{ap, ◌∙◌}
 use Rattle.poly_maps.specs.Polynomial.{coefficient}
 use Rattle.poly_maps.proofs.Adding.{coefficient-there, coefficient-absent}
+use Rattle.poly_maps.proofs.Terms.{IsNormal-descends}
 use Rattle.poly_maps.proofs.poly.Poly.coefficient.Goals as goal
+
+pub place-requires : goal.place-requires
+place-requires c = rw c.deref.ensures.value (IsNormal-descends c.self.inside.terms.items c.self.invariant.0)
 
 pub returns-in-Ok : goal.returns-in-Ok
 returns-in-Ok c =
