@@ -1,6 +1,5 @@
 -- What callers see of a sink in memory.
 use Rattle.std.specs.Prelude.{ℕ, ◌-◌, ◌<◌, List, length, min, Some, ◌⊎◌}
-use Rattle.flow_base.specs.declared.mem_sink.TheConstants.{ROOM}
 use Rattle.flow_base.specs.FailingCalls.{IsToFail}
 use Rattle.flow_base.specs.Sink.{SinkView}
 
@@ -21,6 +20,10 @@ mem_sink_view sink = record { held = Some sink.held; faults = sink.faults }
 abbrev pub taken_of : MemSinkState → ℕ → ℕ
 taken_of sink n = min sink.most n
 
+-- how many bytes a sink has room for
+abbrev pub room : ℕ
+room = 1048576
+
 -- the next write fails where its number says so, or where it would take more bytes than the room that is left
 abbrev pub MustFail : MemSinkState → ℕ → Type 0
-MustFail sink count = IsToFail sink.failing sink.writes ⊎ (ROOM - length sink.held < count)
+MustFail sink count = IsToFail sink.failing sink.writes ⊎ (room - length sink.held < count)

@@ -1,8 +1,7 @@
 ghost use Rattle.std.specs.Prelude.{◌≡◌, ℕ, ◌<◌, ◌≤◌, ◌↔◌, [], ◌++◌, length, take, vec_capacity, IfOk, IsErr, IsTrue, MatchResult, OnErr, OnOk};
 ghost use Rattle.std.specs.Io.{WritesAtMost};
-ghost use Rattle.flow_base.specs.declared.mem_sink.TheConstants.{ROOM};
 ghost use Rattle.flow_base.specs.Counts.{Rose, counted};
-ghost use Rattle.flow_base.specs.MemSink.{MemSinkState, mem_sink_view, taken_of, MustFail};
+ghost use Rattle.flow_base.specs.MemSink.{MemSinkState, mem_sink_view, room, taken_of, MustFail};
 ghost use Rattle.flow_base.specs.Sink.{Adds};
 
 use crate::failing_calls::FailingCalls;
@@ -28,7 +27,7 @@ impl Model for MemSink {
 
     ghost view = { λ s. record { held = s.bytes.items; most = s.most; failing = s.calls.failing.items; writes = s.calls.calls; faults = s.faults } };
 
-    ghost invariant = { λ s. (1 ≤ s.most) × (length s.bytes.items ≤ ROOM) × (ROOM ≤ vec_capacity s.bytes) };
+    ghost invariant = { λ s. (1 ≤ s.most) × (length s.bytes.items ≤ room) × (room ≤ vec_capacity s.bytes) };
 }
 
 impl MemSink {

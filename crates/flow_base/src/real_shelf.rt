@@ -89,11 +89,25 @@ impl RealShelf {
 }
 
 impl Shelf for RealShelf {
+    ghost use Rattle.std.specs.Prelude.{ℕ, ◌<◌, [], List, take, IsErrOf, IsSome, OnErr, OnOk, Some};
+    ghost use Rattle.std.specs.Io.KnownBytes.{IsAtEnd};
+    ghost use Rattle.flow_base.specs.Counts.{Rose};
     ghost use Rattle.flow_base.specs.RealShelf.{real_shelf_view};
+    ghost use Rattle.flow_base.specs.Shelf.{TouchesOnly, Opens, Takes, IsSame, open_faults};
 
     ghost view = { real_shelf_view };
 
-    fn open(&mut self, name: &str) -> Result<(), OpenError> {
+    fn open(&mut self, name: &str) -> Result<(), OpenError>
+        ensures touched { TouchesOnly (real_shelf_view self.old) (real_shelf_view self.new) (Some name.now) }
+        ensures is_open { OnOk result ((real_shelf_view self.new).name ≡ Some name.now) }
+        ensures none_taken { OnOk result ((real_shelf_view self.new).taken ≡ 0) }
+        ensures whole { OnOk result (Opens ((real_shelf_view self.old).files name.now) (real_shelf_view self.new).rest) }
+        ensures failed { IsErrOf result OpenError.Failed → Rose ((real_shelf_view self.old).faults name.now) ((real_shelf_view self.new).faults name.now) }
+        ensures none_open { IsErrOf result OpenError.Failed → (real_shelf_view self.new).name ≡ None }
+        ensures no_memory { IsErrOf result OpenError.NoMemory → IsSame (real_shelf_view self.old) (real_shelf_view self.new) }
+
+        ensures no_fault { OnOk result ((asked : List ℕ) → (real_shelf_view self.new).faults asked ≡ (real_shelf_view self.old).faults asked) }
+    {
         let key = String::from_str(self.alloc, name)?;
         self.counts.enter(name)?;
         let Ok(source) = self.source(name) else {
@@ -109,7 +123,18 @@ impl Shelf for RealShelf {
         Ok(())
     }
 
-    fn read(&mut self, buf: &mut [u8]) -> Result<usize, Failed> {
+    fn read(&mut self, buf: &mut [u8]) -> Result<usize, Failed>
+        requires is_open { IsSome (real_shelf_view self.old).name }
+        requires room { 0 < length buf.old }
+        ensures bound { ReadsAtMost result buf.new }
+        ensures bytes { MatchResult result (λ n. Takes (real_shelf_view self.old) (real_shelf_view self.new) (take n buf.new)) (λ _. Takes (real_shelf_view self.old) (real_shelf_view self.new) []) }
+        ensures at_end { result ≡ Ok 0 → IsAtEnd (real_shelf_view self.new).rest }
+        ensures failed { OnErr result (Rose (open_faults (real_shelf_view self.old)) (open_faults (real_shelf_view self.new))) }
+        ensures rest_kept { OnErr result ((real_shelf_view self.new).rest ≡ (real_shelf_view self.old).rest) }
+        ensures taken_kept { OnErr result ((real_shelf_view self.new).taken ≡ (real_shelf_view self.old).taken) }
+
+        ensures no_fault { OnOk result ((asked : List ℕ) → (real_shelf_view self.new).faults asked ≡ (real_shelf_view self.old).faults asked) }
+    {
         let Some(reading) = &mut self.reading else {
             unreachable!()
         };
