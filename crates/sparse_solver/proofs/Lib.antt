@@ -1,0 +1,4 @@
+pub mod Absorbed
+pub mod Orders
+pub mod Plans
+pub mod Systems

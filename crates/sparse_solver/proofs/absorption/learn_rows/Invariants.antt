@@ -1,0 +1,13 @@
+-- The rows taken so far are kept, and stand in one of two lists.
+use Rattle.std.proofs.Common.{length, take}
+use Rattle.prime_field.specs.Modulus.{value_of}
+use Rattle.elim_core.specs.Solved.{IsKept}
+use Rattle.elim_core.specs.Sparse.{rows_with}
+use Rattle.sparse_solver.proofs.Orders.{TakesSoFar}
+use Rattle.sparse_solver.proofs.Systems.{picked}
+use Rattle.sparse_solver.proofs.absorption.learn_rows.Given as goal
+
+abbrev pub invariant-loop-number : goal.invariant-loop-number
+invariant-loop-number l =
+    IsKept l.elimination l.words (value_of l.fn.m) l.unknowns (picked (rows_with l.unknowns l.rows l.values) (take l.number-index l.order))
+    × TakesSoFar (length l.rows) l.order l.cutting.items l.following.items l.number-index

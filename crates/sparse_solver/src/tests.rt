@@ -1,0 +1,82 @@
+//! Systems whose solutions are known.
+
+ghost use Rattle.std.specs.Prelude.{◌≡◌, ◌+◌, ◌<◌, ◌≤◌, IfOk};
+ghost use Rattle.elim_core.specs.Sparse.{entries_of};
+
+use super::*;
+use elim_core::SparseRow;
+use prime_field::Modulus;
+use sqlite_items::Items;
+use std::alloc::Global;
+use std::process::Abort;
+use std::test::Fail;
+
+/// A plan for two rows with two columns each.
+fn plan_of(
+    alloc: Global,
+    unknowns: u32,
+    first: (u32, u32),
+    second: (u32, u32),
+) -> Result<SparsePlan, Fail>
+    requires few { unknowns ≤ 8 }
+    requires first_order { first.0 < first.1 }
+    requires first_within { first.1 ≤ unknowns }
+    requires second_order { second.0 < second.1 }
+    requires second_within { second.1 ≤ unknowns }
+    ensures unknowns { IfOk result (λ plan. plan.unknowns ≡ unknowns) }
+    ensures entries { IfOk result (λ plan. entries_of plan.rows ≡ 4) }
+{
+    let mut rows = Items::new(alloc);
+    rows.push(SparseRow {
+        columns: Items::from_slice(alloc, &[first.0, first.1])?,
+    })?;
+    rows.push(SparseRow {
+        columns: Items::from_slice(alloc, &[second.0, second.1])?,
+    })?;
+    Ok(SparsePlan::new(alloc, unknowns, rows)?)
+}
+
+#[test]
+fn a_row_that_followed_counts_at_other_points(rt: HostRuntime) -> Result<(), Fail> {
+    let m = Modulus::first();
+    let mut plan = plan_of(rt.alloc(), 1, (0, 1), (0, 1))?;
+    let Some(set) = plan.learn(m, &[1, 1, 1, 1])? else {
+        return Err(Fail::from("nothing is learned"));
+    };
+    if !set.is_empty() {
+        return Err(Fail::from("an independent unknown"));
+    }
+    let mut work = [7; 15];
+    let mut out = [7; 1];
+    assert!(rt; plan.solve(m, &[1, 1, 1, 1], &[1], &mut work, &mut out));
+    assert_eq!(rt; out, [1]);
+    let other = [1, 1, 1817916055167709182, 1];
+    assert!(rt; !plan.solve(m, &other, &[1], &mut work, &mut out));
+    Ok(())
+}
+
+#[test]
+fn a_contradiction_is_not_learned(rt: HostRuntime) -> Result<(), Fail> {
+    let mut plan = plan_of(rt.alloc(), 1, (0, 1), (0, 1))?;
+    assert!(rt; plan.learn(Modulus::second(), &[1, 1, 1, 1])?.is_some());
+    assert!(rt; plan.learn(Modulus::second(), &[1, 1, 2, 1])?.is_none());
+    Ok(())
+}
+
+#[test]
+fn the_last_unknown_of_a_chain_tells_the_others(rt: HostRuntime) -> Result<(), Fail> {
+    let m = Modulus::first();
+    let mut plan = plan_of(rt.alloc(), 3, (1, 2), (2, 3))?;
+    let Some(set) = plan.learn(m, &[1, 1, 1, 1])? else {
+        return Err(Fail::from("nothing is learned"));
+    };
+    assert!(rt; set.as_slice() == [3].as_slice());
+    if set.len() != 1 {
+        return Err(Fail::from("another set"));
+    }
+    let mut work = [7; 35];
+    let mut out = [7; 4];
+    assert!(rt; plan.solve(m, &[1, 2, 1, 3], &[1, 2], &mut work, &mut out));
+    assert_eq!(rt; out, [6, 0, 2305843009213693948, 0]);
+    Ok(())
+}
