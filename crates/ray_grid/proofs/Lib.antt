@@ -1,0 +1,5 @@
+pub mod Directions
+pub mod Forcing
+pub mod RayLemmas
+pub mod Units
+pub mod Vanishing

@@ -1,0 +1,4 @@
+pub mod Attempt
+pub mod Grid
+pub mod Start
+pub mod Vanishing
