@@ -1,0 +1,23 @@
+-- Bounds whose products a grid covers, and how many monomials bounds have.
+use Rattle.std.specs.Prelude.{◌≡◌, ℕ, ◌+◌, ◌≤◌, ◌↔◌, List, AllPairs, Contains, length, slice_index}
+use Rattle.std.specs.declared.cmp.Ordering.TheVariants.{Less}
+use Rattle.poly_maps.specs.Bound.{IsMonomialWithin}
+use Rattle.poly_maps.specs.Mono.{mono_cmp, HasEight}
+use Rattle.poly_maps.specs.declared.bound.Bound.{Bound}
+use Rattle.poly_maps.specs.declared.bound.Bounds.{Bounds}
+
+-- the grid's degrees are at least the sums of those of numerator and denominator
+pub record Covers (grid : Bound) (b : Bounds) : Type 0 where
+  pub places : HasEight grid.each
+  pub total : b.num.total + b.den.total ≤ grid.total
+  pub each : (i : ℕ) → slice_index b.num.each i + slice_index b.den.each i ≤ slice_index grid.each i
+
+-- the ascending list of the monomials in the first `variables` variables that are within the bound
+pub record ListsMonomials (b : Bound) (variables : ℕ) (es : List (List ℕ)) : Type 0 where
+  pub ascending : AllPairs (λ e f. mono_cmp e f ≡ Less) es
+  pub members : (e : List ℕ) → Contains es e ↔ IsMonomialWithin b variables e
+
+-- numerator and denominator have at most 1024 monomials together
+abbrev pub HasFew : Bounds → ℕ → Type 0
+HasFew b variables = (es fs : List (List ℕ)) → ListsMonomials b.num variables es → ListsMonomials b.den variables fs →
+    length es + length fs ≤ 1024
