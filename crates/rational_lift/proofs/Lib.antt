@@ -1,0 +1,9 @@
+pub mod Bridge
+pub mod Candidates
+pub mod Going
+pub mod Joining
+pub mod Leads
+pub mod Lifts
+pub mod Nearest
+pub mod Ratios
+pub mod Ties

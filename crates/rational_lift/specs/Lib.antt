@@ -1,0 +1,4 @@
+pub mod Joined
+pub mod Lifting
+pub mod Parts
+pub mod Recovery
