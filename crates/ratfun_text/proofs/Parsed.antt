@@ -383,12 +383,12 @@ kept_end names text at parts past h =
 
 -- what an answer of the builder says
 
-pub answer_err : (outcome : Outcome) (k : ExprKind) → IsAnswer outcome (Err k) → k ≢ NoMemory → outcome ≡ Err k
-answer_err outcome Unexpected h other = h
-answer_err outcome WideNumber h other = h
-answer_err outcome UnknownName h other = h
-answer_err outcome TooDeep h other = h
-answer_err outcome NoMemory h other = absurd (other refl)
+pub answer_err : (outcome : Outcome) (after : Parts) (k : ExprKind) → IsAnswer outcome after (Err k) → k ≢ NoMemory → outcome ≡ Err k
+answer_err outcome after Unexpected h other = h
+answer_err outcome after WideNumber h other = h
+answer_err outcome after UnknownName h other = h
+answer_err outcome after TooDeep h other = h
+answer_err outcome after NoMemory h other = absurd (other refl)
 
 pub tree_err : (tree : Option Expr) (k : ExprKind) → IsTree tree (Err k) → k ≢ NoMemory → (tree ≡ None) × (k ≡ Unexpected)
 tree_err tree Unexpected h other = (h, refl)

@@ -3,5 +3,7 @@ pub mod Faults
 pub mod Grammar
 pub mod Names
 pub mod Parts
+pub mod Printed
+pub mod Reading
 pub mod Tokens
 pub mod Value

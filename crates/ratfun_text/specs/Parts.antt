@@ -1,5 +1,5 @@
 -- What is built of an expression while its tokens are read.
-use Rattle.std.specs.Prelude.{ℕ, zero, suc, ◌≡◌, ◌+◌, ◌^◌, Bool, true, false, nat_le, if◌then◌else◌, List, [], ◌∷◌, ◌++◌, reverse, Option, Some, None, Result, Ok, Err}
+use Rattle.std.specs.Prelude.{ℕ, zero, suc, ◌≡◌, ◌+◌, ◌^◌, Bool, true, false, nat_le, if◌then◌else◌, List, [], ◌∷◌, ◌++◌, reverse, Option, Some, None, Result, Ok, Err, ⊤}
 use Rattle.std.specs.Str.Parse.{digits_value}
 use Rattle.ratfun_text.specs.declared.builder.Builder.{Builder}
 use Rattle.ratfun_text.specs.declared.builder.Level.{Level}
@@ -151,14 +151,14 @@ IsOperand wanted (Err UnknownName) = wanted ≡ Err UnknownName
 IsOperand wanted (Err TooDeep) = wanted ≡ Err TooDeep
 IsOperand wanted (Err NoMemory) = Unit {0}
 
--- a refusal for want of memory, or the outcome
-abbrev pub IsAnswer : Outcome → Result Builder ExprKind → Type 0
-IsAnswer outcome (Ok b) = outcome ≡ Ok (parts_of b)
-IsAnswer outcome (Err Unexpected) = outcome ≡ Err Unexpected
-IsAnswer outcome (Err WideNumber) = outcome ≡ Err WideNumber
-IsAnswer outcome (Err UnknownName) = outcome ≡ Err UnknownName
-IsAnswer outcome (Err TooDeep) = outcome ≡ Err TooDeep
-IsAnswer outcome (Err NoMemory) = Unit {0}
+-- a refusal for want of memory, or the outcome, whose parts are there afterwards
+abbrev pub IsAnswer : Outcome → Parts → Result ⊤ ExprKind → Type 0
+IsAnswer outcome after (Ok done) = outcome ≡ Ok after
+IsAnswer outcome after (Err Unexpected) = outcome ≡ Err Unexpected
+IsAnswer outcome after (Err WideNumber) = outcome ≡ Err WideNumber
+IsAnswer outcome after (Err UnknownName) = outcome ≡ Err UnknownName
+IsAnswer outcome after (Err TooDeep) = outcome ≡ Err TooDeep
+IsAnswer outcome after (Err NoMemory) = Unit {0}
 
 -- a refusal for want of memory, or the tree, or the refusal where there is none
 abbrev pub IsTree : Option Expr → Result Expr ExprKind → Type 0

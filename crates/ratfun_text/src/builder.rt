@@ -1,5 +1,5 @@
 //! The tree of an expression, built token by token.
-ghost use Rattle.std.specs.Prelude.{◌≡◌, ◌≢◌, ◌+◌, ◌≤◌, ◌<◌, ◌^◌, [], ◌∷◌, ◌++◌, true, Err, Ok, IfOk, IsTrue, if◌then◌else◌, length, nat_le};
+ghost use Rattle.std.specs.Prelude.{◌≡◌, ◌≢◌, ◌+◌, ◌≤◌, ◌<◌, ◌^◌, [], ◌∷◌, ◌++◌, true, Err, Ok, IfOk, IsTrue, OnOk, if◌then◌else◌, length, nat_le};
 ghost use Rattle.std.specs.Str.Parse.{digits_value};
 ghost use Rattle.ratfun_text.specs.Bytes.{is_digits};
 ghost use Rattle.ratfun_text.specs.Names.{names_of};
@@ -14,6 +14,7 @@ use crate::parse::ExprKind;
 use crate::tokens::{Sign, sign_of};
 use sqlite_items::{Boxed, Items};
 use std::alloc::{AllocError, Global};
+use std::mem::replace;
 
 /// How many parentheses and signs in front of a factor may be open.
 const DEPTH_LIMIT: u32 = 64;
@@ -84,42 +85,29 @@ impl Level {
         }
     }
 
-    /// The level after `*` or `/`, before which this power stands.
-    fn factor_ended(self, alloc: Global, over: bool, power: Expr) -> Result<Level, AllocError>
-        ensures { IfOk result (λ level. level ≡ factor_ended over self power) }
+    /// Takes in `*` or `/`, before which this power stands.
+    fn end_factor(&mut self, alloc: Global, over: bool, power: Expr) -> Result<(), AllocError>
+        ensures { OnOk result (self.new ≡ factor_ended over self.old power) }
     {
-        let mut level = self;
-        let factor = negated(alloc, power, level.signs)?;
-        level.product.push((level.over, factor))?;
-        level.over = over;
-        level.signs = 0;
-        Ok(level)
+        let factor = negated(alloc, power, self.signs)?;
+        self.product.push((self.over, factor))?;
+        self.over = over;
+        self.signs = 0;
+        Ok(())
     }
 
-    /// The level after `+` or `-`, before which this power stands.
-    fn term_ended(self, alloc: Global, minus: bool, power: Expr) -> Result<Level, AllocError>
-        ensures { IfOk result (λ level. level ≡ term_ended minus self power) }
+    /// Takes in `+` or `-`, before which this power stands.
+    fn end_term(&mut self, alloc: Global, minus: bool, power: Expr) -> Result<(), AllocError>
+        ensures { OnOk result (self.new ≡ term_ended minus self.old power) }
     {
-        let Level {
-            sum,
-            minus: present,
-            product,
-            over,
-            signs,
-            base,
-        } = self;
-        let mut sum = sum;
-        let factor = negated(alloc, power, signs)?;
-        let term = product_with(product, over, factor)?;
-        sum.push((present, term))?;
-        Ok(Level {
-            sum,
-            minus,
-            product: Items::new(alloc),
-            over: false,
-            signs: 0,
-            base,
-        })
+        let factor = negated(alloc, power, self.signs)?;
+        let product = replace(&mut self.product, Items::new(alloc));
+        let term = product_with(product, self.over, factor)?;
+        self.sum.push((self.minus, term))?;
+        self.minus = minus;
+        self.over = false;
+        self.signs = 0;
+        Ok(())
     }
 
     /// The sum that ends with this power.
@@ -223,12 +211,12 @@ impl Builder {
         }
     }
 
-    /// What follows the token that has these bytes.
-    pub fn read(self, names: &Names, word: &[u8]) -> Result<Builder, ExprKind>
+    /// Takes in the token that has these bytes. After a refusal nothing is said of the builder.
+    pub fn read(&mut self, names: &Names, word: &[u8]) -> Result<(), ExprKind>
         requires few { length (names_of names.now) < 2 ^ 32 }
-        requires shallow { depth (parts_of self) ≤ 64 }
+        requires shallow { depth (parts_of self.old) ≤ 64 }
         requires word { IsTrue (is_word word.now) }
-        ensures { IsAnswer (taken names.now (parts_of self) (token_of word.now)) result }
+        ensures { IsAnswer (taken names.now (parts_of self.old) (token_of word.now)) (parts_of self.new) result }
     {
         let first = word[0];
         if first.is_ascii_digit() {
@@ -243,52 +231,32 @@ impl Builder {
         }
     }
 
-    fn number(self, digits: &[u8]) -> Result<Builder, ExprKind>
+    fn number(&mut self, digits: &[u8]) -> Result<(), ExprKind>
         requires { IsTrue (is_digits digits.now) }
-        ensures { IsAnswer (after_number (digits_value 10 digits.now) (parts_of self) self.operand) result }
+        ensures { IsAnswer (after_number (digits_value 10 digits.now) (parts_of self.old) self.old.operand) (parts_of self.new) result }
     {
-        let Builder {
-            alloc,
-            outer,
-            level,
-            operand,
-        } = self;
-        let operand = with_number(alloc, operand, digits)?;
-        Ok(Builder {
-            alloc,
-            outer,
-            level,
-            operand,
-        })
+        let operand = replace(&mut self.operand, Operand::Wanted);
+        self.operand = with_number(self.alloc, operand, digits)?;
+        Ok(())
     }
 
-    fn name(self, names: &Names, name: &[u8]) -> Result<Builder, ExprKind>
+    fn name(&mut self, names: &Names, name: &[u8]) -> Result<(), ExprKind>
         requires { length (names_of names.now) < 2 ^ 32 }
-        ensures { IsAnswer (after_name names.now name.now (parts_of self) self.operand) result }
+        ensures { IsAnswer (after_name names.now name.now (parts_of self.old) self.old.operand) (parts_of self.new) result }
     {
-        let Builder {
-            alloc,
-            outer,
-            level,
-            operand,
-        } = self;
-        let Operand::Wanted = operand else {
+        let Operand::Wanted = self.operand else {
             return Err(ExprKind::Unexpected);
         };
         let Some(argument) = names.argument(name) else {
             return Err(ExprKind::UnknownName);
         };
-        Ok(Builder {
-            alloc,
-            outer,
-            level,
-            operand: Operand::Atom(Expr::Arg(argument)),
-        })
+        self.operand = Operand::Atom(Expr::Arg(argument));
+        Ok(())
     }
 
-    fn sign(self, sign: Sign) -> Result<Builder, ExprKind>
-        requires shallow { depth (parts_of self) ≤ 64 }
-        ensures { IsAnswer (after_sign sign (parts_of self)) result }
+    fn sign(&mut self, sign: Sign) -> Result<(), ExprKind>
+        requires shallow { depth (parts_of self.old) ≤ 64 }
+        ensures { IsAnswer (after_sign sign (parts_of self.old)) (parts_of self.new) result }
     {
         match sign {
             Sign::Plus => self.sum_sign(false),
@@ -301,134 +269,83 @@ impl Builder {
         }
     }
 
-    fn sum_sign(self, minus: bool) -> Result<Builder, ExprKind>
-        ensures { IsAnswer (after_sum_sign minus (parts_of self) (whole self.operand)) result }
+    fn sum_sign(&mut self, minus: bool) -> Result<(), ExprKind>
+        ensures { IsAnswer (after_sum_sign minus (parts_of self.old) (whole self.old.operand)) (parts_of self.new) result }
     {
-        let Builder {
-            alloc,
-            outer,
-            level,
-            operand,
-        } = self;
+        let operand = replace(&mut self.operand, Operand::Wanted);
         let Some(power) = operand.whole() else {
             return Err(ExprKind::Unexpected);
         };
-        let level = level.term_ended(alloc, minus, power)?;
-        Ok(Builder {
-            alloc,
-            outer,
-            level,
-            operand: Operand::Wanted,
-        })
+        self.level.end_term(self.alloc, minus, power)?;
+        Ok(())
     }
 
-    fn product_sign(self, over: bool) -> Result<Builder, ExprKind>
-        ensures { IsAnswer (after_product_sign over (parts_of self) (whole self.operand)) result }
+    fn product_sign(&mut self, over: bool) -> Result<(), ExprKind>
+        ensures { IsAnswer (after_product_sign over (parts_of self.old) (whole self.old.operand)) (parts_of self.new) result }
     {
-        let Builder {
-            alloc,
-            outer,
-            level,
-            operand,
-        } = self;
+        let operand = replace(&mut self.operand, Operand::Wanted);
         let Some(power) = operand.whole() else {
             return Err(ExprKind::Unexpected);
         };
-        let level = level.factor_ended(alloc, over, power)?;
-        Ok(Builder {
-            alloc,
-            outer,
-            level,
-            operand: Operand::Wanted,
-        })
+        self.level.end_factor(self.alloc, over, power)?;
+        Ok(())
     }
 
     /// A `-`, which is a sign in front of a factor where an operand is wanted.
-    fn minus(self) -> Result<Builder, ExprKind>
-        requires shallow { depth (parts_of self) ≤ 64 }
-        ensures { IsAnswer (after_minus (parts_of self) self.operand) result }
+    fn minus(&mut self) -> Result<(), ExprKind>
+        requires shallow { depth (parts_of self.old) ≤ 64 }
+        ensures { IsAnswer (after_minus (parts_of self.old) self.old.operand) (parts_of self.new) result }
     {
         let Operand::Wanted = self.operand else {
             return self.sum_sign(true);
         };
-        let mut builder = self;
-        if builder.level.base + builder.level.signs >= DEPTH_LIMIT {
+        if self.level.base + self.level.signs >= DEPTH_LIMIT {
             return Err(ExprKind::TooDeep);
         }
-        builder.level.signs += 1;
-        Ok(builder)
+        self.level.signs += 1;
+        Ok(())
     }
 
-    fn caret(self) -> Result<Builder, ExprKind>
-        ensures { IsAnswer (after_caret (parts_of self) self.operand) result }
+    fn caret(&mut self) -> Result<(), ExprKind>
+        ensures { IsAnswer (after_caret (parts_of self.old) self.old.operand) (parts_of self.new) result }
     {
-        let Builder {
-            alloc,
-            outer,
-            level,
-            operand,
-        } = self;
+        let operand = replace(&mut self.operand, Operand::Wanted);
         let Operand::Atom(tree) = operand else {
             return Err(ExprKind::Unexpected);
         };
-        Ok(Builder {
-            alloc,
-            outer,
-            level,
-            operand: Operand::Base(tree),
-        })
+        self.operand = Operand::Base(tree);
+        Ok(())
     }
 
-    fn open(self) -> Result<Builder, ExprKind>
-        requires shallow { depth (parts_of self) ≤ 64 }
-        ensures { IsAnswer (after_open (parts_of self) self.operand) result }
+    fn open(&mut self) -> Result<(), ExprKind>
+        requires shallow { depth (parts_of self.old) ≤ 64 }
+        ensures { IsAnswer (after_open (parts_of self.old) self.old.operand) (parts_of self.new) result }
     {
-        let Builder {
-            alloc,
-            outer,
-            level,
-            operand,
-        } = self;
-        let Operand::Wanted = operand else {
+        let Operand::Wanted = self.operand else {
             return Err(ExprKind::Unexpected);
         };
-        let depth = level.base + level.signs;
+        let depth = self.level.base + self.level.signs;
         if depth >= DEPTH_LIMIT {
             return Err(ExprKind::TooDeep);
         }
-        let mut outer = outer;
-        outer.push(level)?;
-        Ok(Builder {
-            alloc,
-            outer,
-            level: Level::new(alloc, depth + 1),
-            operand: Operand::Wanted,
-        })
+        let level = replace(&mut self.level, Level::new(self.alloc, depth + 1));
+        self.outer.push(level)?;
+        Ok(())
     }
 
-    fn close(self) -> Result<Builder, ExprKind>
-        ensures { IsAnswer (after_close (parts_of self) (whole self.operand)) result }
+    fn close(&mut self) -> Result<(), ExprKind>
+        ensures { IsAnswer (after_close (parts_of self.old) (whole self.old.operand)) (parts_of self.new) result }
     {
-        let Builder {
-            alloc,
-            outer,
-            level,
-            operand,
-        } = self;
+        let operand = replace(&mut self.operand, Operand::Wanted);
         let Some(power) = operand.whole() else {
             return Err(ExprKind::Unexpected);
         };
-        let mut outer = outer;
-        let Some(around) = outer.pop() else {
+        let Some(around) = self.outer.pop() else {
             return Err(ExprKind::Unexpected);
         };
-        let tree = level.ended(alloc, power)?;
-        Ok(Builder {
-            alloc,
-            outer,
-            level: around,
-            operand: Operand::Atom(tree),
-        })
+        let level = replace(&mut self.level, around);
+        self.operand = Operand::Atom(level.ended(self.alloc, power)?);
+        Ok(())
     }
 
     /// The tree where the text ends.

@@ -100,11 +100,10 @@ pub fn parse_expr(alloc: Global, text: &[u8], names: &Names) -> Result<Expr, Exp
             at += 1;
         } else {
             let end = at + 1 + run(first, &text[at + 1..]);
-            builder = match builder.read(names, &text[at..end]) {
-                Ok(builder) => builder,
+            match builder.read(names, &text[at..end]) {
+                Ok(()) => at = end,
                 Err(kind) => return Err(ExprError::at(at, kind)),
-            };
-            at = end;
+            }
         }
     }
     match builder.finish() {

@@ -1,7 +1,13 @@
-ghost use Rattle.std.specs.Prelude.{◌<◌, ◌^◌, IfOk, length};
+ghost use Rattle.std.specs.Prelude.{◌≡◌, ◌≢◌, ℕ, ◌<◌, ◌≤◌, ◌^◌, IfOk, IsTrue, List, length};
+ghost use Rattle.std.specs.Char.{is_ascii_alphabetic};
 ghost use Rattle.ratfun_text.specs.Names.{names_of};
+ghost use Rattle.ratfun_text.specs.Printed.{AreVariables, IsIn};
 
-use crate::{Expr, ExprError, ExprKind, Name, Names, parse_expr};
+use crate::{
+    Expr, ExprError, ExprKind, Name, Names, QuotientError, Text, parse_expr, print_mono,
+    print_quotient, read_quotient,
+};
+use poly_maps::{Frac, Mono};
 use prime_field::Modulus;
 use sqlite_items::Items;
 use std::alloc::{AllocError, Global};
@@ -65,6 +71,8 @@ fn types_cross_threads() {
     crosses::<Name>();
     crosses::<Names>();
     crosses::<ExprError>();
+    crosses::<Text>();
+    crosses::<QuotientError>();
 }
 
 #[test]
@@ -227,5 +235,123 @@ fn a_refusal_is_printed_with_its_place(rt: HostRuntime) -> Result<(), Fail> {
         format!(in rt.alloc(); "{error}")?.as_str(),
         "wide number at byte 3"
     );
+    Ok(())
+}
+
+/// Two names of one letter each.
+#[tactic(auto, using(crate::proofs::Variables::two_letters))]
+fn two_names(alloc: Global, first: u8, second: u8) -> Result<Vec<Name>, AllocError>
+    requires first { IsTrue (is_ascii_alphabetic first) }
+    requires second { IsTrue (is_ascii_alphabetic second) }
+    requires apart { first ≢ second }
+    ensures names { IfOk result (λ names. AreVariables names.items) }
+    ensures two { IfOk result (λ names. length names.items ≡ 2) }
+{
+    let mut names = Vec::new(alloc);
+    names.push(Name::of(alloc, &[first])?)?;
+    names.push(Name::of(alloc, &[second])?)?;
+    Ok(names)
+}
+
+/// What is printed of the quotient that the text gives in the names `x` and `y`.
+fn printed_again(alloc: Global, text: &[u8]) -> Result<Text, QuotientError> {
+    let names = two_names(alloc, b'x', b'y')?;
+    let q = read_quotient(alloc, text, &names)?;
+    Ok(print_quotient(alloc, &q, &names)?)
+}
+
+fn is_printed(alloc: Global, text: &[u8]) -> bool {
+    match printed_again(alloc, text) {
+        Ok(printed) => printed.bytes() == text,
+        Err(_error) => false,
+    }
+}
+
+fn is_refused(alloc: Global, text: &[u8]) -> bool {
+    match printed_again(alloc, text) {
+        Ok(_printed) => false,
+        Err(error) => error == QuotientError::NotPrinted,
+    }
+}
+
+#[test]
+fn what_is_printed_is_read_and_printed_again(rt: HostRuntime) {
+    let alloc = rt.alloc();
+    assert!(rt; is_printed(alloc, b"0"));
+    assert!(rt; is_printed(alloc, b"1"));
+    assert!(rt; is_printed(alloc, b"x + y"));
+    assert!(rt; is_printed(alloc, b"(x^2*y + y)/(x*y + 3)"));
+    assert!(rt; is_printed(alloc, b"(-1/7)/(x - 1/7*y)"));
+    assert!(rt; is_printed(alloc, b"(1/8*x^2 - 3/4*x + 1)/(y^2)"));
+    assert!(rt; is_printed(alloc, b"-x^65535"));
+}
+
+#[test]
+fn numbers_are_read_up_to_their_ends(rt: HostRuntime) {
+    let alloc = rt.alloc();
+    assert!(rt; is_printed(alloc, b"170141183460469231731687303715884105727"));
+    assert!(rt; is_printed(alloc, b"-170141183460469231731687303715884105728"));
+    assert!(rt; is_printed(alloc, b"1/340282366920938463463374607431768211455*x"));
+    assert!(rt; is_refused(alloc, b"170141183460469231731687303715884105728"));
+    assert!(rt; is_refused(alloc, b"-170141183460469231731687303715884105729"));
+    assert!(rt; is_refused(alloc, b"1/340282366920938463463374607431768211456"));
+    assert!(rt; is_refused(alloc, b"x^65536"));
+}
+
+#[test]
+fn other_texts_are_refused(rt: HostRuntime) {
+    let alloc = rt.alloc();
+    assert!(rt; is_refused(alloc, b""));
+    assert!(rt; is_refused(alloc, b"2/2*x"));
+    assert!(rt; is_refused(alloc, b"1*x"));
+    assert!(rt; is_refused(alloc, b"x^1"));
+    assert!(rt; is_refused(alloc, b"y*x"));
+    assert!(rt; is_refused(alloc, b"y + x"));
+    assert!(rt; is_refused(alloc, b"x + -y"));
+    assert!(rt; is_refused(alloc, b"x+y"));
+    assert!(rt; is_refused(alloc, b"+x"));
+    assert!(rt; is_refused(alloc, b"01*x"));
+    assert!(rt; is_refused(alloc, b"(x)/(1)"));
+    assert!(rt; is_refused(alloc, b"(1)/(2*x)"));
+    assert!(rt; is_refused(alloc, b"x/y"));
+    assert!(rt; is_refused(alloc, b"z"));
+}
+
+/// Whether a text's terms are the first polynomial of `(1/8*d^2 - 3/4*d + 1)/(m^2)`.
+fn are_expected(terms: &[(Mono, Frac)]) -> bool {
+    match terms {
+        [square, linear, constant] => {
+            square.1 == Frac { num: 1, den: 8 }
+                && linear.1 == Frac { num: -3, den: 4 }
+                && constant.1 == Frac { num: 1, den: 1 }
+        }
+        _ => false,
+    }
+}
+
+#[test]
+fn a_text_gives_the_terms_that_it_writes(rt: HostRuntime) -> Result<(), Fail> {
+    let names = two_names(rt.alloc(), b'd', b'm')?;
+    let q = read_quotient(rt.alloc(), b"(1/8*d^2 - 3/4*d + 1)/(m^2)", &names)?;
+    assert!(rt; are_expected(q.num.terms()));
+    assert_eq!(rt; q.den.terms().len(), 1);
+    Ok(())
+}
+
+/// The monomial with these exponents of the first two variables.
+#[tactic(auto, using(crate::proofs::Variables::first_two))]
+fn in_two(first: u16, second: u16) -> Mono
+    ensures { (names : List (List ℕ)) → 2 ≤ length names → IsIn names result }
+{
+    Mono::new([first, second, 0, 0, 0, 0, 0, 0])
+}
+
+#[test]
+fn a_monomial_is_printed_alone(rt: HostRuntime) -> Result<(), Fail> {
+    let names = two_names(rt.alloc(), b'x', b'y')?;
+    let text = print_mono(rt.alloc(), &in_two(2, 1), &names)?;
+    assert_eq!(rt; text.bytes(), b"x^2*y".as_slice());
+    let one = print_mono(rt.alloc(), &in_two(0, 0), &names)?;
+    assert_eq!(rt; one.bytes(), b"1".as_slice());
     Ok(())
 }

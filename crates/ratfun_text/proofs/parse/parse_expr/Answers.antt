@@ -28,18 +28,20 @@ run_here c =
     run_at text _ at c.run.result inside dark (take_rest text (at + 1)) c.run.ensures.within c.run.ensures.joined c.run.ensures.apart
 
 pub loop-at-preserved : goal.loop-at-preserved
-loop-at-preserved c = word_kept c.args.text.now c.loop-at.at c.run.result (run_here (goal.at.loop-at-preserved c).After-run) c.args.names.now (parts_of c.loop-at.builder) c.loop-at.invariant.1 (parts_of c.in-Ok.builder) c.in-Ok.ensures
+loop-at-preserved c = word_kept c.args.text.now c.loop-at.at c.run.result (run_here (goal.at.loop-at-preserved c).After-run) c.args.names.now (parts_of c.loop-at.builder) c.loop-at.invariant.1 (parts_of c.read.new.self) c.in-Ok.ensures
 
-told : (c : After-at) → c.at.result.kind ≢ NoMemory → IsFirst c.args.names.now c.args.text.now c.at.result.place c.at.result.kind
-told c =
+told : (c : After-at) → Run c.args.text.now c.loop-at.at c.run.result → c.at.result.kind ≢ NoMemory → IsFirst c.args.names.now c.args.text.now c.at.result.place c.at.result.kind
+told c r =
     first_told c.args.names.now c.args.text.now c.loop-at.at c.in-Err.kind c.at.result c.at.ensures
-    (λ other. word_refused c.args.text.now c.loop-at.at c.run.result (run_here (goal.at.returns-in-Err-clause-first c).After-run) c.args.names.now (parts_of c.loop-at.builder) c.loop-at.invariant.1 c.in-Err.kind (answer_err _ c.in-Err.kind c.in-Err.ensures other))
+    (λ other. word_refused c.args.text.now c.loop-at.at c.run.result r c.args.names.now (parts_of c.loop-at.builder) c.loop-at.invariant.1 c.in-Err.kind (answer_err _ (parts_of c.read.new.self) c.in-Err.kind c.in-Err.ensures other))
 
 pub returns-in-Err-clause-first : goal.returns-in-Err-clause-first
-returns-in-Err-clause-first c = told c
+returns-in-Err-clause-first c = let at = goal.at.returns-in-Err-clause-first c in told at.After-at (run_here at.After-run)
 
 pub returns-in-Err-clause-read : goal.returns-in-Err-clause-read
-returns-in-Err-clause-read c = memory_told c.args.names.now c.args.text.now c.at.result (told c)
+returns-in-Err-clause-read c =
+    let at = goal.at.returns-in-Err-clause-read c in
+    memory_told c.args.names.now c.args.text.now c.at.result (told at.After-at (run_here at.After-run))
 
 tree_here : (c : In-Ok-finish) → IsTreeOf c.args.names.now c.args.text.now c.in-Ok-finish.tree
 tree_here c =
