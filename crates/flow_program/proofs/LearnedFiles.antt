@@ -19,18 +19,18 @@ use Rattle.flow_program.specs.Tasks.{need_of, task_of}
 -- the laws that it rests on
 pub record Laws : Type 0 where
   pub one_lesson : (need : Need) (graphs : List Graph) (points : List (List ℕ)) (a b : Lesson) → LearnedSets need graphs points a → LearnedSets need graphs points b → a ≡ b
-  pub told_or_nothing : (bytes : List ℕ) (n : ℕ) (a : FileKind) → IsGoodFile bytes → IsFirstBad bytes n a → ⊥
-  pub one_form : (bytes : List ℕ) (f g : FileForm) → Says bytes f → Says bytes g → f ≡ g
+  pub told_or_nothing : (need : Need) (bytes : List ℕ) (n : ℕ) (a : FileKind) → IsGoodFile need bytes → IsFirstBad need bytes n a → ⊥
+  pub one_form : (need : Need) (bytes : List ℕ) (f g : FileForm) → Says need bytes f → Says need bytes g → f ≡ g
 
 well : (what : Task) (form : FileForm) (learned : List GraphLearned) (answer : Answer) → LearnedAnswer what form learned answer → answer.status ≡ 0
 well (task.Sample m) form learned answer right = ap (λ (a : Answer). a.status) right.2
 well task.Learn form learned answer right = ap (λ (a : Answer). a.status) right
 
 read_well : (laws : Laws) (what : Task) (bytes : List ℕ) (answer : Answer) → IsLearned what bytes → ShortAnswer what bytes answer → answer.status ≡ 0
-read_well laws what bytes answer is (inl refused) = absurd (laws.told_or_nothing bytes refused.line refused.kind is.good refused.bad)
+read_well laws what bytes answer is (inl refused) = absurd (laws.told_or_nothing (need_of what) bytes refused.line refused.kind is.good refused.bad)
 read_well laws what bytes answer is (inr read) =
     let form = is.form in
-    let right = subst (λ (f : FileForm). JobAnswer what f answer) (laws.one_form bytes read.form form read.says is.says) read.right in
+    let right = subst (λ (f : FileForm). JobAnswer what f answer) (laws.one_form (need_of what) bytes read.form form read.says is.says) read.right in
     let lesson = laws.one_lesson (need_of what) form.graphs form.points right.lesson (Learns is.learned) right.learns is.learns in
     well what form is.learned answer (subst (λ (l : Lesson). LessonAnswer what form l answer) lesson right.right)
 

@@ -28,9 +28,9 @@ use Rattle.flow_program.proofs.WordsLaws.{one_bad_place}
 pub record Laws : Type 0 where
   pub one_outcome : (m : ℕ) (graphs : List Graph) (learned : List (List (List ℕ))) (number : ℕ) (inputs : List ℕ) (o p : Outcome) → 1 < m → GraphValue m graphs learned number inputs o → GraphValue m graphs learned number inputs p → o ≡ p
   pub one_lesson : (need : Need) (graphs : List Graph) (points : List (List ℕ)) (a b : Lesson) → LearnedSets need graphs points a → LearnedSets need graphs points b → a ≡ b
-  pub one_told : (bytes : List ℕ) (n k : ℕ) (a b : FileKind) → IsFirstBad bytes n a → IsFirstBad bytes k b → (n ≡ k) × (a ≡ b)
-  pub told_or_nothing : (bytes : List ℕ) (n : ℕ) (a : FileKind) → IsFirstBad bytes n a → IsGoodFile bytes → ⊥
-  pub one_form : (bytes : List ℕ) (f g : FileForm) → Says bytes f → Says bytes g → f ≡ g
+  pub one_told : (need : Need) (bytes : List ℕ) (n k : ℕ) (a b : FileKind) → IsFirstBad need bytes n a → IsFirstBad need bytes k b → (n ≡ k) × (a ≡ b)
+  pub told_or_nothing : (need : Need) (bytes : List ℕ) (n : ℕ) (a : FileKind) → IsFirstBad need bytes n a → IsGoodFile need bytes → ⊥
+  pub one_form : (need : Need) (bytes : List ℕ) (f g : FileForm) → Says need bytes f → Says need bytes g → f ≡ g
 
 outcomes_once : (meaning : Meaning) → ((point : List ℕ) (o p : Outcome) → meaning point o → meaning point p → o ≡ p) → (points : List (List ℕ)) (os ps : List Outcome) → AreOutcomes meaning points os → AreOutcomes meaning points ps → os ≡ ps
 outcomes_once meaning once [] [] [] first second = refl
@@ -78,12 +78,12 @@ job_once laws what form a b first second = job_by_lesson laws what form a b (lea
 
 few_once : (laws : Laws) (what : Task) (bytes : List ℕ) (a b : Answer) → ShortAnswer what bytes a → ShortAnswer what bytes b → a ≡ b
 few_once laws what bytes a b (inl first) (inl second) =
-    let same = laws.one_told bytes first.line second.line first.kind second.kind first.bad second.bad in
+    let same = laws.one_told (need_of what) bytes first.line second.line first.kind second.kind first.bad second.bad in
     first.told ∙ ap (λ l. refusal 3 (file_text l first.kind)) same.0 ∙ ap (λ k. refusal 3 (file_text second.line k)) same.1 ∙ sym second.told
-few_once laws what bytes a b (inl first) (inr second) = absurd (laws.told_or_nothing bytes first.line first.kind first.bad second.good)
-few_once laws what bytes a b (inr first) (inl second) = absurd (laws.told_or_nothing bytes second.line second.kind second.bad first.good)
+few_once laws what bytes a b (inl first) (inr second) = absurd (laws.told_or_nothing (need_of what) bytes first.line first.kind first.bad second.good)
+few_once laws what bytes a b (inr first) (inl second) = absurd (laws.told_or_nothing (need_of what) bytes second.line second.kind second.bad first.good)
 few_once laws what bytes a b (inr first) (inr second) =
-    job_once laws what second.form a b (subst (λ (f : FileForm). JobAnswer what f a) (laws.one_form bytes first.form second.form first.says second.says) first.right) second.right
+    job_once laws what second.form a b (subst (λ (f : FileForm). JobAnswer what f a) (laws.one_form (need_of what) bytes first.form second.form first.says second.says) first.right) second.right
 
 file_once : (laws : Laws) (what : Task) (bytes : List ℕ) (long : Bool) (a b : Answer) → MatchBool long (a ≡ long_answer) (ShortAnswer what bytes a) → MatchBool long (b ≡ long_answer) (ShortAnswer what bytes b) → a ≡ b
 file_once laws what bytes true a b first second = first ∙ sym second

@@ -1,20 +1,25 @@
 -- What a file that is read whole, or to a length over the limit, says of the run's answer.
-use Rattle.std.proofs.Common.{◌≡◌, ℕ, ◌<◌, ◌≤◌, List, length, Option, Some, None, refl, sym, subst, MatchBool, inl, inr}
-use Rattle.std.specs.Prelude.{◌⊎◌}
+use Rattle.std.proofs.Common.{◌≡◌, ℕ, ◌<◌, ◌≤◌, List, [], length, Option, Some, None, refl, sym, ◌∙◌, ap, subst, MatchBool, inl, inr, arith}
+use Rattle.std.specs.Prelude.{◌⊎◌, ◌↔◌}
 use Rattle.std.specs.Option.{ForSome}
 use Rattle.std.proofs.lemmas.Bool.{le-ltb, lt-ltb}
 use Rattle.flow_base.specs.Shelf.{ShelfView, Opens, TakesMore}
-use Rattle.graph_file.specs.File.{IsGoodFile}
+use Rattle.graph_file.specs.declared.error.FileKind.{FileKind}
+use Rattle.graph_file.specs.declared.error.FileKind.TheVariants as kinds
+use Rattle.graph_file.specs.declared.job.Need.{Need}
+use Rattle.graph_file.specs.File.{IsFirstBad, IsGoodFile}
+use Rattle.graph_file.specs.Read.{IsRefusal}
 use Rattle.graph_file.specs.Says.{FileForm, Says}
 use Rattle.flow_program.specs.declared.task.Task.{Task}
-use Rattle.flow_program.specs.Words.{Request, asked, file_of}
-use Rattle.flow_program.specs.Answer.{Answer}
-use Rattle.flow_program.specs.Jobs.{FileAnswer, IsLearned, JobAnswer, ShortAnswer, long_answer, most_bytes}
-use Rattle.flow_program.specs.Run.{ModuliArePrime, Premise, RequestAnswer, RunAnswer}
-use Rattle.flow_program.specs.Tasks.{task_of}
+use Rattle.flow_program.specs.Words.{Request, IsBadAt, asked, file_of}
+use Rattle.flow_program.specs.Answer.{Answer, refusal}
+use Rattle.flow_program.specs.Jobs.{FileAnswer, HasBadLine, IsLearned, IsNoJob, JobAnswer, ShortAnswer, long_answer, most_bytes}
+use Rattle.flow_program.specs.Run.{IsBadFile, ModuliArePrime, Premise, RequestAnswer, RunAnswer, words_answer}
+use Rattle.flow_program.specs.Tasks.{need_of, task_of}
 use Rattle.flow_program.specs.declared.reply.Reply.{Reply}
 use Rattle.flow_program.specs.declared.status.Status.{Status}
 use Rattle.flow_program.specs.declared.status.Status.TheVariants.{Done, BadWords, BadFile, NotLearned, ReadFault, WriteFault, NoMemory}
+use Rattle.flow_program.specs.Refusals.{file_text}
 use Rattle.flow_program.specs.Reply.{answer_of}
 use Rattle.flow_program.specs.Status.{code_of}
 use Rattle.flow_program.specs.Outside.{IsLearnable, IsRightAnswer, MayStand, MayStandAsked, StandsAnswered}
@@ -38,37 +43,122 @@ pub long_file : (what : Task) (told : Option (Option (List ℕ))) (opened later 
     → StandsAnswered what told answer
 long_file what told opened later answer opens takes long same =
     let stands = stands_long told opened.rest takes.0 most_bytes opens takes.2 long in
-    record { bytes = stands.0; stood = stands.1; right = λ premise. of_many what stands.0 answer stands.2 same }
+    record {
+      bytes = stands.0;
+      stood = stands.1;
+      right = λ premise. of_many what stands.0 answer stands.2 same;
+      bad_file = (λ is. inl stands.2, λ bad. ap (λ (a : Answer). a.status) same);
+    }
+
+-- bytes that are not too many, and are no job, have a bad line
+short_bad : (what : Task) (bytes : List ℕ) → length bytes ≤ most_bytes → IsNoJob what bytes → HasBadLine what bytes
+short_bad what bytes few (inl many) = absurd (omega (arith, few, many))
+short_bad what bytes few (inr bad) = bad
+
+short_premise : (what : Task) (bytes : List ℕ) → length bytes ≤ most_bytes → ModuliArePrime ⊎ IsNoJob what bytes → ModuliArePrime ⊎ HasBadLine what bytes
+short_premise what bytes few (inl prime) = inl prime
+short_premise what bytes few (inr none) = inr (short_bad what bytes few none)
+
+-- what is told of bytes that are not too many is told of the name under which they stand
+short_file : (what : Task) (told : Option (Option (List ℕ))) (bytes : List ℕ) (answer : Answer) → MayStand told bytes → length bytes ≤ most_bytes → (ModuliArePrime ⊎ HasBadLine what bytes → ShortAnswer what bytes answer) → (answer.status ≡ 3) ↔ HasBadLine what bytes
+    → StandsAnswered what told answer
+short_file what told bytes answer stood few right bad = record {
+  bytes = bytes;
+  stood = stood;
+  right = λ premise. of_few what bytes answer few (right (short_premise what bytes few premise));
+  bad_file = (λ is. inr (bad.0 is), λ none. bad.1 (short_bad what bytes few none));
+}
 
 -- a file that is read whole has the answer of its bytes
-pub read_file : (what : Task) (told : Option (Option (List ℕ))) (opened : Option (List ℕ)) (bytes : List ℕ) (answer : Answer) → Opens told opened → ForSome opened (λ rest. bytes ≡ rest) → length bytes ≤ most_bytes → (Premise answer → ShortAnswer what bytes answer)
-    → StandsAnswered what told answer
-read_file what None opened bytes answer opens whole fits right = record { bytes = bytes; stood = tt; right = λ premise. of_few what bytes answer fits (right premise) }
-read_file what (Some None) opened bytes answer opens whole fits right = absurd opens
-read_file what (Some (Some stood)) opened bytes answer opens whole fits right = record { bytes = bytes; stood = sym (whole stood opens); right = λ premise. of_few what bytes answer fits (right premise) }
+pub read_file : (what : Task) (told : Option (Option (List ℕ))) (opened : Option (List ℕ)) (bytes : List ℕ) (answer : Answer) → Opens told opened → ForSome opened (λ rest. bytes ≡ rest) → length bytes ≤ most_bytes
+    → (ModuliArePrime ⊎ HasBadLine what bytes → ShortAnswer what bytes answer) → (answer.status ≡ 3) ↔ HasBadLine what bytes → StandsAnswered what told answer
+read_file what None opened bytes answer opens whole few right bad = short_file what None bytes answer tt few right bad
+read_file what (Some None) opened bytes answer opens whole few right bad = absurd opens
+read_file what (Some (Some stood)) opened bytes answer opens whole few right bad = short_file what (Some (Some stood)) bytes answer (sym (whole stood opens)) few right bad
+
+named_premise : (words : List (List ℕ)) (wish : Request) (bytes : List ℕ) → asked words ≡ Some wish → Premise words bytes → ModuliArePrime ⊎ IsNoJob (task_of wish) bytes
+named_premise words wish bytes is (inl prime) = inl prime
+named_premise words wish bytes is (inr (inl none)) = let clash : Some wish ≡ None = sym is ∙ none in cc
+named_premise words wish bytes is (inr (inr bad)) = inr (subst (λ (r : Option Request). IsBadFile r bytes) is bad)
 
 -- what is told of a file that the words name is told of the words
 pub named_right : (words : List (List ℕ)) (shelf : ShelfView) (wish : Request) (answer : Answer) → asked words ≡ Some wish → StandsAnswered (task_of wish) (shelf.files (file_of wish)) answer → IsRightAnswer words shelf answer
 named_right words shelf wish answer is stands = record {
   bytes = stands.bytes;
   stood = subst (λ (r : Option Request). MayStandAsked r shelf stands.bytes) (sym is) stands.stood;
-  right = λ premise. subst (λ (r : Option Request). RequestAnswer r words stands.bytes answer) (sym is) (stands.right premise);
+  right = λ premise. subst (λ (r : Option Request). RequestAnswer r words stands.bytes answer) (sym is) (stands.right (named_premise words wish stands.bytes is premise));
+  bad_file = subst (λ (r : Option Request). (answer.status ≡ 3) ↔ IsBadFile r stands.bytes) (sym is) stands.bad_file;
 }
 
--- an answer after learning is no refusal of words or bytes
-no_refusal : (status : Status) → (status ≡ Done) ⊎ (status ≡ NotLearned) → (code_of status ≡ 2) ⊎ (code_of status ≡ 3) → ⊥
-no_refusal Done ends (inl refused) = cc
-no_refusal Done ends (inr refused) = cc
-no_refusal NotLearned ends (inl refused) = cc
-no_refusal NotLearned ends (inr refused) = cc
-no_refusal status (inl ends) refused = cc
-no_refusal status (inr ends) refused = cc
+-- words that ask for nothing have the answer that tells their place, whatever the shelf has
+pub unnamed_right : (words : List (List ℕ)) (shelf : ShelfView) (k : ℕ) (answer : Answer) → IsBadAt words k → answer ≡ words_answer k → IsRightAnswer words shelf answer
+unnamed_right words shelf k answer bad same =
+    let none = bad.refused in
+    let two : answer.status ≡ 2 = ap (λ (a : Answer). a.status) same in
+    record {
+      bytes = [];
+      stood = subst (λ (r : Option Request). MayStandAsked r shelf []) (sym none) tt;
+      right = λ premise. subst (λ (r : Option Request). RequestAnswer r words [] answer) (sym none) (k, bad, same);
+      bad_file = (λ three. absurd (omega (arith, two, three)), λ is. absurd (subst (λ (r : Option Request). IsBadFile r []) none is));
+    }
+
+-- a status after learning is not that of a bad file
+not_bad : (status : Status) → (status ≡ Done) ⊎ (status ≡ NotLearned) → code_of status ≡ 3 → ⊥
+not_bad Done ends bad = cc
+not_bad NotLearned ends bad = cc
+not_bad status (inl ends) bad = cc
+not_bad status (inr ends) bad = cc
+
+-- a file with which nothing is wrong, and the law that it has no bad line
+pub record GoodFile (what : Task) (bytes : List ℕ) (form : FileForm) : Type 0 where
+  pub good : IsGoodFile (need_of what) bytes
+  pub says : Says (need_of what) bytes form
+  pub no_fault : (n : ℕ) (kind : FileKind) → IsFirstBad (need_of what) bytes n kind → ⊥
+
+pub good_file : (what : Task) (need : Need) (bytes : List ℕ) (form : FileForm) → need ≡ need_of what → IsGoodFile need bytes × Says need bytes form
+    → ((need : Need) (bytes : List ℕ) (n : ℕ) (kind : FileKind) → IsGoodFile need bytes → IsFirstBad need bytes n kind → ⊥) → GoodFile what bytes form
+good_file what need bytes form read said no_fault =
+    let good = subst (λ (n : Need). IsGoodFile n bytes) read said.0 in
+    record {
+      good = good;
+      says = subst (λ (n : Need). Says n bytes form) read said.1;
+      no_fault = λ n kind bad. no_fault (need_of what) bytes n kind good bad;
+    }
 
 -- the answer of the job that a file says is that of its bytes
-pub read_well : (what : Task) (bytes : List ℕ) (form : FileForm) (reply : Reply) → IsGoodFile bytes → Says bytes form → (ModuliArePrime → JobAnswer what form (answer_of reply)) → (reply.status ≡ Done) ⊎ (reply.status ≡ NotLearned)
-    → Premise (answer_of reply) → ShortAnswer what bytes (answer_of reply)
-read_well what bytes form reply good says right ends (inl prime) = inr (record { good = good; form = form; says = says; right = right prime })
-read_well what bytes form reply good says right ends (inr refused) = absurd (no_refusal reply.status ends refused)
+pub read_well : (what : Task) (bytes : List ℕ) (form : FileForm) (answer : Answer) → GoodFile what bytes form → (ModuliArePrime → JobAnswer what form answer) → ModuliArePrime ⊎ HasBadLine what bytes → ShortAnswer what bytes answer
+read_well what bytes form answer file right (inl prime) = inr (record { good = file.good; form = form; says = file.says; right = right prime })
+read_well what bytes form answer file right (inr bad) = absurd (file.no_fault bad.line bad.kind bad.bad)
+
+-- and its status is not that of a bad file
+pub good_status : (what : Task) (bytes : List ℕ) (form : FileForm) (status : Status) → GoodFile what bytes form → (status ≡ Done) ⊎ (status ≡ NotLearned) → (code_of status ≡ 3) ↔ HasBadLine what bytes
+good_status what bytes form status file ends = (λ three. absurd (not_bad status ends three), λ bad. absurd (file.no_fault bad.line bad.kind bad.bad))
+
+-- a file is refused for its first bad line, or for want of memory
+first_bad : (need : Need) (bytes : List ℕ) (line : ℕ) (kind : FileKind) → (kind ≡ kinds.NoMemory → ⊥) → IsRefusal need bytes line kind → IsFirstBad need bytes line kind
+first_bad need bytes line kinds.NoMemory other refused = absurd (other refl)
+first_bad need bytes line kinds.Syntax other refused = refused
+first_bad need bytes line kinds.Version other refused = refused
+first_bad need bytes line kinds.Repeated other refused = refused
+first_bad need bytes line kinds.UnknownNode other refused = refused
+first_bad need bytes line kinds.Residue other refused = refused
+first_bad need bytes line kinds.Limit other refused = refused
+first_bad need bytes line kinds.Missing other refused = refused
+first_bad need bytes line (kinds.Expr number error) other refused = refused
+
+-- a refused file, want of memory apart, has a bad line
+bad_file : (what : Task) (need : Need) (bytes : List ℕ) (line : ℕ) (kind : FileKind) → need ≡ need_of what → (kind ≡ kinds.NoMemory → ⊥) → IsRefusal need bytes line kind → IsFirstBad (need_of what) bytes line kind
+bad_file what need bytes line kind read other refused = subst (λ (n : Need). IsFirstBad n bytes line kind) read (first_bad need bytes line kind other refused)
+
+-- its answer tells that line
+pub bad_answer : (what : Task) (need : Need) (bytes : List ℕ) (line : ℕ) (kind : FileKind) (answer : Answer) → need ≡ need_of what → (kind ≡ kinds.NoMemory → ⊥) → IsRefusal need bytes line kind → answer ≡ refusal 3 (file_text line kind)
+    → ModuliArePrime ⊎ HasBadLine what bytes → ShortAnswer what bytes answer
+bad_answer what need bytes line kind answer read other refused told premise = inl (record { line = line; kind = kind; bad = bad_file what need bytes line kind read other refused; told = told })
+
+-- and its status is that of a bad file
+pub bad_status : (what : Task) (need : Need) (bytes : List ℕ) (line : ℕ) (kind : FileKind) (status : Status) → need ≡ need_of what → (kind ≡ kinds.NoMemory → ⊥) → IsRefusal need bytes line kind → status ≡ BadFile
+    → (code_of status ≡ 3) ↔ HasBadLine what bytes
+bad_status what need bytes line kind status read other refused is = (λ three. record { line = line; kind = kind; bad = bad_file what need bytes line kind read other refused }, λ bad. ap code_of is)
 
 -- the law of files that are learned, which is another's to prove
 pub record Law : Type 0 where

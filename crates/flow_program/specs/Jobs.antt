@@ -1,5 +1,5 @@
 -- The answer of a file that is read, and of the graphs and points that it says.
-use Rattle.std.specs.Prelude.{◌≡◌, ℕ, ◌≤◌, List, [], length, slice_get, Some, MatchBool, nat_lt, ◌⊎◌, codes}
+use Rattle.std.specs.Prelude.{◌≡◌, ℕ, ◌<◌, ◌≤◌, List, [], length, slice_get, Some, MatchBool, nat_lt, ◌⊎◌, codes}
 use Rattle.prime_field.specs.Modulus.{value_of}
 use Rattle.graph_file.specs.declared.error.FileKind.{FileKind}
 use Rattle.graph_file.specs.declared.graph.Graph.{Graph}
@@ -43,30 +43,40 @@ pub record JobAnswer (what : Task) (form : FileForm) (answer : Answer) : Type 0 
   pub learns : LearnedSets (need_of what) form.graphs form.points lesson
   pub right : LessonAnswer what form lesson answer
 
--- the file has a bad line: status 3 with the first one
-pub record IsRefused (bytes : List ℕ) (answer : Answer) : Type 0 where
+-- a line of the file is bad for what is to be done with it
+pub record HasBadLine (what : Task) (bytes : List ℕ) : Type 0 where
   pub line : ℕ
   pub kind : FileKind
-  pub bad : IsFirstBad bytes line kind
+  pub bad : IsFirstBad (need_of what) bytes line kind
+
+-- the file has a bad line: status 3 with the first one
+pub record IsRefused (what : Task) (bytes : List ℕ) (answer : Answer) : Type 0 where
+  pub line : ℕ
+  pub kind : FileKind
+  pub bad : IsFirstBad (need_of what) bytes line kind
   pub told : answer ≡ refusal 3 (file_text line kind)
 
 -- the file has no bad line, and the answer is that of what it says
 pub record IsRead (what : Task) (bytes : List ℕ) (answer : Answer) : Type 0 where
-  pub good : IsGoodFile bytes
+  pub good : IsGoodFile (need_of what) bytes
   pub form : FileForm
-  pub says : Says bytes form
+  pub says : Says (need_of what) bytes form
   pub right : JobAnswer what form answer
 
 -- the most bytes that a file has
 abbrev pub most_bytes : ℕ
 most_bytes = 16777216
 
+-- with these bytes this can't be done: they are too many, or one of their lines is bad
+abbrev pub IsNoJob : Task → List ℕ → Type 0
+IsNoJob what bytes = (most_bytes < length bytes) ⊎ HasBadLine what bytes
+
 abbrev pub long_answer : Answer
 long_answer = refusal 3 (codes "flow: file too long\n")
 
 -- the answer of bytes that are not too many
 abbrev pub ShortAnswer : Task → List ℕ → Answer → Type 0
-ShortAnswer what bytes answer = IsRefused bytes answer ⊎ IsRead what bytes answer
+ShortAnswer what bytes answer = IsRefused what bytes answer ⊎ IsRead what bytes answer
 
 -- the answer of a file of these bytes, with which this is to be done
 abbrev pub FileAnswer : Task → List ℕ → Answer → Type 0
@@ -75,8 +85,8 @@ FileAnswer what bytes answer = MatchBool (nat_lt most_bytes (length bytes)) (ans
 -- the file is read and its graphs are learned
 pub record IsLearned (what : Task) (bytes : List ℕ) : Type 0 where
   pub fits : length bytes ≤ most_bytes
-  pub good : IsGoodFile bytes
+  pub good : IsGoodFile (need_of what) bytes
   pub form : FileForm
-  pub says : Says bytes form
+  pub says : Says (need_of what) bytes form
   pub learned : List GraphLearned
   pub learns : LearnedSets (need_of what) form.graphs form.points (Learns learned)

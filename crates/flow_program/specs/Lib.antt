@@ -6,6 +6,7 @@ pub mod Parsed
 pub mod Refusals
 pub mod Reply
 pub mod Run
+pub mod Runs
 pub mod Sampled
 pub mod Status
 pub mod Tasks

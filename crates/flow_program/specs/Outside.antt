@@ -1,13 +1,13 @@
 -- What a run does to the shelf and the sinks that it is lent.
-use Rattle.std.specs.Prelude.{◌≡◌, ℕ, List, [], Option, Some, None, ⊤, ◌⊎◌, codes}
+use Rattle.std.specs.Prelude.{◌≡◌, ℕ, List, [], Option, Some, None, ⊤, ◌⊎◌, ◌↔◌, codes}
 use Rattle.flow_base.specs.Counts.{Rose}
 use Rattle.flow_base.specs.Shelf.{ShelfView}
 use Rattle.flow_base.specs.Sink.{SinkView, Adds, AddsFront}
 use Rattle.flow_program.specs.Words.{Request, asked, file_of}
 use Rattle.flow_program.specs.Tasks.{task_of}
 use Rattle.flow_program.specs.Answer.{Answer}
-use Rattle.flow_program.specs.Jobs.{FileAnswer, IsLearned}
-use Rattle.flow_program.specs.Run.{Premise, RunAnswer}
+use Rattle.flow_program.specs.Jobs.{FileAnswer, IsLearned, IsNoJob}
+use Rattle.flow_program.specs.Run.{IsBadFile, ModuliArePrime, Premise, RunAnswer}
 use Rattle.flow_program.specs.declared.task.Task.{Task}
 
 -- the shelf and the two sinks at one moment
@@ -25,22 +25,26 @@ MayStand None bytes = ⊤
 MayStand (Some None) bytes = ⊥
 MayStand (Some (Some told)) bytes = told ≡ bytes
 
--- under its premise, this is the answer of bytes that may stand under a name, with which this is to be done
+-- This is the answer of bytes that may stand under a name, with which this is to be done: where the moduli are prime, or the
+-- bytes are no job. Its status is 3 exactly where they are none.
 pub record StandsAnswered (what : Task) (told : Option (Option (List ℕ))) (answer : Answer) : Type 0 where
   pub bytes : List ℕ
   pub stood : MayStand told bytes
-  pub right : Premise answer → FileAnswer what bytes answer
+  pub right : ModuliArePrime ⊎ IsNoJob what bytes → FileAnswer what bytes answer
+  pub bad_file : (answer.status ≡ 3) ↔ IsNoJob what bytes
 
 -- bytes that may stand under the file that is asked for
 abbrev pub MayStandAsked : Option Request → ShelfView → List ℕ → Type 0
 MayStandAsked None shelf bytes = ⊤
 MayStandAsked (Some wish) shelf bytes = MayStand (shelf.files (file_of wish)) bytes
 
--- under its premise, this is the answer of the words and of the bytes that stood under the file that they name
+-- This is, under their premise, the answer of the words and of the bytes that stood under the file that they name. Its status
+-- is 3 exactly where these bytes are no job, whatever the moduli are.
 pub record IsRightAnswer (words : List (List ℕ)) (shelf : ShelfView) (answer : Answer) : Type 0 where
   pub bytes : List ℕ
   pub stood : MayStandAsked (asked words) shelf bytes
-  pub right : Premise answer → RunAnswer words bytes answer
+  pub right : Premise words bytes → RunAnswer words bytes answer
+  pub bad_file : (answer.status ≡ 3) ↔ IsBadFile (asked words) bytes
 
 -- the file that is asked for is there, and all its graphs are learned
 pub record IsLearnable (words : List (List ℕ)) (shelf : ShelfView) : Type 0 where
@@ -80,8 +84,13 @@ abbrev pub FileRose : Option Request → ShelfView → ShelfView → Type 0
 FileRose None old new = ⊥
 FileRose (Some wish) old new = Rose (old.faults (file_of wish)) (new.faults (file_of wish))
 
+-- the count of out, or that of err, rose
 abbrev pub SinkRose : Outside → Outside → Type 0
 SinkRose old new = Rose old.out.faults new.out.faults ⊎ Rose old.err.faults new.err.faults
+
+-- no device failed: neither the file's count nor a sink's rose
+abbrev pub NoDeviceFailed : List (List ℕ) → Outside → Outside → Type 0
+NoDeviceFailed words old new = FileRose (asked words) old.shelf new.shelf ⊎ SinkRose old new → ⊥
 
 -- what stands on out and err where a write failed: fronts of the answer, or of one of the two texts of a fault
 abbrev pub BreaksOff : List (List ℕ) → Outside → Outside → Type 0

@@ -6,7 +6,7 @@ use Rattle.prime_field.specs.Residue.{IsPrime}
 use Rattle.prime_field.specs.declared.Modulus.TheVariants.{First, Second}
 use Rattle.flow_program.specs.Words.{Request, asked, IsBadAt}
 use Rattle.flow_program.specs.Answer.{Answer, refusal}
-use Rattle.flow_program.specs.Jobs.{FileAnswer}
+use Rattle.flow_program.specs.Jobs.{FileAnswer, IsNoJob}
 use Rattle.flow_program.specs.Tasks.{task_of}
 
 -- both moduli are prime
@@ -14,14 +14,15 @@ pub record ModuliArePrime : Type 0 where
   pub first : IsPrime (value_of First)
   pub second : IsPrime (value_of Second)
 
--- the words, or the bytes of the file, are refused
-abbrev pub IsRefusal : Answer → Type 0
-IsRefusal answer = (answer.status ≡ 2) ⊎ (answer.status ≡ 3)
+-- a file is asked for, and its bytes are no job for that
+abbrev pub IsBadFile : Option Request → List ℕ → Type 0
+IsBadFile None bytes = ⊥
+IsBadFile (Some wish) bytes = IsNoJob (task_of wish) bytes
 
--- what is supposed where this answer is said to be right: that both moduli are prime, or nothing, where the words or the
--- bytes are refused
-abbrev pub Premise : Answer → Type 0
-Premise answer = ModuliArePrime ⊎ IsRefusal answer
+-- What is supposed of these words and bytes where an answer is said to be right: that both moduli are prime; or nothing, where
+-- the words ask for nothing or the bytes are no job.
+abbrev pub Premise : List (List ℕ) → List ℕ → Type 0
+Premise words bytes = ModuliArePrime ⊎ ((asked words ≡ None) ⊎ IsBadFile (asked words) bytes)
 
 -- the answer to words that go wrong at the k-th
 abbrev pub words_answer : ℕ → Answer

@@ -1,6 +1,7 @@
 //! What `flow` does, from the words that it is given to the bytes that it writes.
 #![tactic(auto)]
 
+mod arguments;
 mod laws;
 mod lessons;
 mod printed;
@@ -12,9 +13,10 @@ mod task;
 mod top;
 mod words;
 
+pub use arguments::words_of;
 pub use laws::{learned_files_are_answered, one_answer};
 pub use status::Status;
-pub use top::run;
+pub use top::{refuse, run};
 pub use words::{Command, WordsError, read_words};
 
 /// The greatest length of a graph file, in bytes.

@@ -1,14 +1,14 @@
 //! What a run is to tell, worked out before anything is written.
 
-ghost use Rattle.std.specs.Prelude.{◌≡◌, ◌≤◌, ◌⊎◌, IfOk, Err, length};
+ghost use Rattle.std.specs.Prelude.{◌≡◌, ◌≢◌, ◌≤◌, ◌⊎◌, ◌↔◌, IfOk, OnOk, Err, length};
 ghost use Rattle.graph_file.specs.Says.{form};
 ghost use Rattle.graph_eval.specs.Learned.{Fits};
 ghost use Rattle.learn_phase.specs.Answers.{FitsJob};
 ghost use Rattle.flow_program.specs.Answer.{refusal};
-ghost use Rattle.flow_program.specs.Jobs.{JobAnswer, LearnedAnswer, ShortAnswer, long_answer, success};
+ghost use Rattle.flow_program.specs.Jobs.{HasBadLine, JobAnswer, LearnedAnswer, ShortAnswer, long_answer, success};
 ghost use Rattle.flow_program.specs.Refusals.{file_text, length_text, no_point_text};
 ghost use Rattle.flow_program.specs.Reply.{TellsWhy, answer_of};
-ghost use Rattle.flow_program.specs.Run.{ModuliArePrime, Premise, words_answer};
+ghost use Rattle.flow_program.specs.Run.{ModuliArePrime, words_answer};
 ghost use Rattle.flow_program.specs.Status.{IsFileStatus, code_of};
 ghost use Rattle.flow_program.specs.Tasks as spec;
 
@@ -19,7 +19,7 @@ use crate::sampling::sample;
 use crate::status::Status;
 use crate::task::{Task, need_of};
 use graph_eval::{Learned, Singular};
-use graph_file::{FileError, FileKind, Graph, Job, Source, read_graphs};
+use graph_file::{FileError, FileKind, Graph, Job, Source, no_fault, read_graphs};
 use learn_phase::{LearnError, learn};
 use std::alloc::{AllocError, Global};
 
@@ -68,11 +68,15 @@ pub(crate) fn reply_to_long_file(alloc: Global) -> Result<Reply, AllocError>
     refuse(alloc, Status::BadFile, b"flow: file too long\n")
 }
 
-/// The reply to a file whose first bad line is this one, counted from 1.
+/// The reply to a file whose first bad line is this one, counted from 1, or want of memory where it is that.
 fn reply_to_bad_line(alloc: Global, line: usize, kind: FileKind) -> Result<Reply, AllocError>
     ensures answer { IfOk result (λ reply. answer_of reply ≡ refusal 3 (file_text line kind)) }
+    ensures kind { OnOk result (kind ≢ FileKind.NoMemory) }
     ensures status { IfOk result (λ reply. reply.status ≡ Status.BadFile) }
 {
+    if let FileKind::NoMemory = kind {
+        return Err(AllocError);
+    }
     let mut err = Vec::new(alloc);
     push_file_text(&mut err, line, kind)?;
     Ok(refusal_of(alloc, Status::BadFile, err))
@@ -153,17 +157,14 @@ fn reply_to_job(alloc: Global, job: &Job, task: Task) -> Result<Reply, AllocErro
 /// The reply to a file of these bytes, with which this is to be done.
 pub(crate) fn reply_to_file(alloc: Global, bytes: &[u8], task: Task) -> Result<Reply, AllocError>
     requires { length bytes.now ≤ FILE_LIMIT }
-    ensures answer { IfOk result (λ reply. Premise (answer_of reply) → ShortAnswer task bytes.now (answer_of reply)) }
+    ensures answer { IfOk result (λ reply. ModuliArePrime ⊎ HasBadLine task bytes.now → ShortAnswer task bytes.now (answer_of reply)) }
+    ensures bad_line { IfOk result (λ reply. (code_of reply.status ≡ 3) ↔ HasBadLine task bytes.now) }
     ensures status { IfOk result (λ reply. IsFileStatus reply.status) }
 {
+    // That a file with which nothing is wrong has no bad line follows from this law.
+    no_fault();
     match read_graphs(alloc, bytes, need_of(task)) {
         Ok(job) => Ok(reply_to_job(alloc, &job, task)?),
-        Err(
-            FileError {
-                kind: FileKind::NoMemory,
-                ..
-            },
-        ) => Err(AllocError),
         Err(FileError { line, kind }) => Ok(reply_to_bad_line(alloc, line, kind)?),
     }
 }

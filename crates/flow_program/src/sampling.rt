@@ -6,6 +6,7 @@ ghost use Rattle.prime_field.specs.Residue.{IsPrime};
 ghost use Rattle.graph_eval.specs.Evaluated.{HasInputs, outcome_of};
 ghost use Rattle.graph_eval.specs.GraphValue.{main_number};
 ghost use Rattle.graph_eval.specs.Learned.{Fits, outputs_of, sets_of};
+ghost use Rattle.graph_eval.specs.Made.{IsMadeFor};
 ghost use Rattle.flow_program.specs.Refusals.{node_names};
 ghost use Rattle.flow_program.specs.Sampled.{AddsPoint, SamplesTo, outcome_line};
 
@@ -49,10 +50,12 @@ fn push_point(
     point: &Point,
     values: &mut [u64],
 ) -> Result<(), AllocError>
+    requires made { IsMadeFor job.now.graphs worker.old }
     requires fits { Fits job.now.graphs learned.now }
     requires entries { HasInputs (slice_get job.now.graphs (main_number job.now.graphs)) point.now }
     requires room { length values.old ≡ outputs_of learned.now }
-    ensures { OnOk result (IsPrime (value_of modulus) → AddsPoint (value_of modulus) job.now.graphs (sets_of learned.now) point.now text.old.items text.new.items) }
+    ensures made { IsMadeFor job.now.graphs worker.new }
+    ensures line { OnOk result (IsPrime (value_of modulus) → AddsPoint (value_of modulus) job.now.graphs (sets_of learned.now) point.now text.old.items text.new.items) }
 {
     let graph = main_graph(job);
     let outcome = worker.eval_point(alloc, job, learned, modulus, point, values)?;

@@ -1,8 +1,12 @@
 //! Whole runs over devices in memory.
 
-use crate::top::run;
+use crate::arguments::words_of;
+use crate::top::{refuse, run};
+use crate::words::WordsError;
 use flow_base::{MemShelf, MemSink};
 use std::alloc::{AllocError, Global};
+use std::env::FillError;
+use std::rt::Env;
 use std::test::Fail;
 
 /// Two variables, one node of two quotients, one point.
@@ -299,6 +303,66 @@ fn a_graph_without_a_learning_point_is_told_with_its_points(rt: HostRuntime) -> 
     Ok(())
 }
 
+/// Two equations in three unknowns, each of which names two of them.
+const SPARSE: &str =
+    "flow 1\ngraph main\ninput d m\nnode c eval input = 4*m ; -(d-4) ; 2*m ; -(d-2)\nnode s sparse c 3 want 1\nrow 1 2\nrow 2 3\noutput s\npoint 6 1\n";
+
+#[test]
+fn a_sparse_system_is_learned_and_solved(rt: HostRuntime) -> Result<(), Fail> {
+    let learned = run_on(rt.alloc(), &["learn", "f"], steady(SPARSE.as_bytes()))?;
+    let out = "graph main point 0 length 2\nsolver s independent 3\n";
+    assert!(rt; is_told(&learned, 0, out, ""), "{learned:?}");
+    let sampled = run_on(rt.alloc(), &["sample", "f"], steady(SPARSE.as_bytes()))?;
+    assert!(rt; is_told(&sampled, 0, "1 0\n", ""), "{sampled:?}");
+    Ok(())
+}
+
+/// The first entry of the first learning point is 487926954045984775: the second row is redundant there.
+#[test]
+fn each_row_of_a_sparse_system_decides_at_each_point(rt: HostRuntime) -> Result<(), Fail> {
+    let cases = [
+        (
+            "1 ; 1 ; x-487926954045984774 ; 1",
+            ["487926954045984775", "5"],
+            "1\nsingular s system\n",
+        ),
+        (
+            "1 ; x ; 2 ; 2*x",
+            ["0", "2"],
+            "singular s system\n1152921504606846976\n",
+        ),
+    ];
+    for (exprs, points, out) in cases {
+        let [first, second] = points;
+        let file = format!(in rt.alloc();
+            "flow 1\ngraph main\ninput x\nnode c eval input = {exprs}\nnode s sparse c 1\nrow 0 1\nrow 0 1\noutput s\npoint {first}\npoint {second}\n"
+        )?;
+        let told = run_on(rt.alloc(), &["sample", "f"], steady(file.as_bytes()))?;
+        assert!(rt; is_told(&told, 0, out, ""), "{exprs:?}: {told:?}");
+    }
+    Ok(())
+}
+
+#[test]
+fn rows_are_refused_with_their_kind(rt: HostRuntime) -> Result<(), Fail> {
+    let cases = [
+        ("row 4294967295 4294967296\n", "flow: line 6: limit\n"),
+        ("row 1 0\n", "flow: line 6: syntax\n"),
+        ("row 2\n", "flow: line 6: limit\n"),
+        ("output s\n", "flow: line 6: syntax\n"),
+        ("row 0 1\nrow 1\n", "flow: line 8: missing\n"),
+        ("", "flow: line 6: missing\n"),
+    ];
+    for (lines, err) in cases {
+        let file = format!(in rt.alloc();
+            "flow 1\ngraph main\ninput x\nnode c eval input = 1 ; x\nnode s sparse c 1\n{lines}"
+        )?;
+        let told = run_on(rt.alloc(), &["sample", "f"], steady(file.as_bytes()))?;
+        assert!(rt; is_told(&told, 3, "", err), "{lines:?}: {told:?}");
+    }
+    Ok(())
+}
+
 #[test]
 fn the_first_bad_line_is_told_with_its_kind(rt: HostRuntime) -> Result<(), Fail> {
     let cases = [
@@ -385,6 +449,107 @@ fn words_that_ask_for_nothing_are_refused_with_their_place(rt: HostRuntime) -> R
         let told = run_on(rt.alloc(), words, steady(QUOTIENTS.as_bytes()))?;
         let err = format!(in rt.alloc(); "flow: bad words at {place}\n")?;
         assert!(rt; is_told(&told, 2, "", err.as_str()), "{words:?}: {told:?}");
+    }
+    Ok(())
+}
+
+/// The arguments of a program: its name, which is no UTF-8, and these words.
+#[derive(Drop)]
+struct Arguments<'a> {
+    words: &'a [&'a [u8]],
+}
+
+impl Env for Arguments<'_> {
+    fn arg(&self, i: usize, buf: &mut [u8]) -> Result<usize, FillError> {
+        let word: &[u8] = match i.checked_sub(1) {
+            None => b"\xff",
+            Some(place) => match self.words.get(place) {
+                None => return Err(FillError::NotPresent),
+                Some(word) => word,
+            },
+        };
+        match buf.get_mut(..word.len()) {
+            None => Err(FillError::TooLong),
+            Some(front) => {
+                front.copy_from_slice(word);
+                Ok(word.len())
+            }
+        }
+    }
+
+    fn var(&self, _name: &str, _buf: &mut [u8]) -> Result<usize, FillError> {
+        Err(FillError::NotPresent)
+    }
+
+    fn var_at(&self, _i: usize, _buf: &mut [u8]) -> Result<usize, FillError> {
+        Err(FillError::NotPresent)
+    }
+}
+
+#[test]
+fn words_of_any_length_are_taken_as_they_are(rt: HostRuntime) -> Result<(), Fail> {
+    let long = vec![in rt.alloc(); b'a'; 1000]?;
+    let given = Arguments {
+        words: &[b"sample", b"", long.as_slice()],
+    };
+    let words = words_of(rt.alloc(), &given)?;
+    assert_eq!(rt; words.len(), 3);
+    assert_eq!(rt; words[0].as_str(), "sample");
+    assert_eq!(rt; words[1].as_str(), "");
+    assert_eq!(rt; words[2].as_bytes(), long.as_slice());
+    Ok(())
+}
+
+#[test]
+fn words_that_are_no_text_are_bad_at_the_first_of_them(rt: HostRuntime) -> Result<(), Fail> {
+    let given = Arguments {
+        words: &[b"sample", b"f\xff", b"\xff"],
+    };
+    let mut err = MemSink::new(rt.alloc(), 4, Vec::new(rt.alloc()))?;
+    match words_of(rt.alloc(), &given) {
+        Ok(words) => return Err(Fail::from("words that are no text were taken")),
+        Err(error) => assert_eq!(rt; refuse(rt.alloc(), error, &mut err).code(), 2),
+    }
+    assert_eq!(rt; err.held(), b"flow: bad words at 2\n".as_slice());
+    Ok(())
+}
+
+#[test]
+fn want_of_memory_for_the_words_is_told(rt: HostRuntime) -> Result<(), Fail> {
+    let mut err = MemSink::new(rt.alloc(), 4, Vec::new(rt.alloc()))?;
+    let status = refuse(rt.alloc(), WordsError::NoMemory, &mut err);
+    assert_eq!(rt; status.code(), 8);
+    assert_eq!(rt; err.held(), b"flow: no memory\n".as_slice());
+    Ok(())
+}
+
+/// A file of one variable, whose output has it 8192 times.
+fn with_long_output(alloc: Global) -> Result<String, AllocError> {
+    let mut file = String::from_str(alloc, "flow 1\ngraph main\ninput x\nnode n0 chain input\n")?;
+    for number in 0..13 {
+        let next = number + 1;
+        let line = format!(in alloc; "node n{next} chain n{number} n{number}\n")?;
+        file.push_str(line.as_str())?;
+    }
+    file.push_str("output n13\npoint 7\n")?;
+    Ok(file)
+}
+
+#[test]
+fn an_output_of_8192_numbers_is_one_line(rt: HostRuntime) -> Result<(), Fail> {
+    let file = with_long_output(rt.alloc())?;
+    let told = run_on(rt.alloc(), &["sample", "f"], steady(file.as_bytes()))?;
+    assert_eq!(rt; told.status, 0);
+    assert_eq!(rt; told.out.len(), 16_384);
+    for (place, byte) in told.out.as_slice().iter().enumerate() {
+        let wanted = if place % 2 == 0 {
+            b'7'
+        } else if place < 16_383 {
+            b' '
+        } else {
+            b'\n'
+        };
+        assert_eq!(rt; *byte, wanted, "at {place}");
     }
     Ok(())
 }

@@ -1,14 +1,15 @@
-//! The one call that the program makes.
+//! The calls that the program makes.
 
-ghost use Rattle.std.specs.Prelude.{Bool, ◌≡◌, ◌≢◌, ◌≤◌, ◌⊎◌, ◌↔◌, ℕ, List, Some, None, IfOk, OnOk, OnErr, IsErrOf, codes};
+ghost use Rattle.std.specs.Prelude.{◌≡◌, ◌≢◌, ◌≤◌, ◌⊎◌, ◌↔◌, None, IfOk, OnOk, OnErr, IsErrOf, codes};
 ghost use Rattle.flow_base.specs.Counts.{Rose};
 ghost use Rattle.flow_base.specs.Sink.{Adds, AddsFront};
+ghost use Rattle.flow_program.specs.Outside.{FileRose, IsLearnable, IsRightAnswer, StandsAnswered, outside};
 ghost use Rattle.flow_program.specs.Reply.{answer_of};
 ghost use Rattle.flow_program.specs.Run.{ModuliArePrime};
+ghost use Rattle.flow_program.specs.Runs.{Runs, no_words_text};
 ghost use Rattle.flow_program.specs.Status.{IsFileStatus, code_of};
 ghost use Rattle.flow_program.specs.Tasks.{task_of};
-ghost use Rattle.flow_program.specs.Words.{Request, asked, file_of, request, texts};
-ghost use Rattle.flow_program.specs.Outside.{BreaksOff, FileRose, IsLearnable, IsRightAnswer, SinkRose, StandsAnswered, Tells, TellsOnly, outside};
+ghost use Rattle.flow_program.specs.Words.{asked, file_of, request, texts};
 
 use crate::FILE_LIMIT;
 use crate::laws::learned_files_are_answered;
@@ -116,6 +117,23 @@ fn tell<E: Sink>(err: &mut E, text: &[u8], status: Status) -> Status
     }
 }
 
+/// Tells on err why there are no words to run on.
+pub fn refuse<E: Sink>(alloc: Global, error: WordsError, err: &mut E) -> Status
+    ensures ends { (result ≡ Status.BadWords) ⊎ ((result ≡ Status.WriteFault) ⊎ (result ≡ Status.NoMemory)) }
+    ensures bad_words { result ≡ Status.BadWords → (error ≢ WordsError.NoMemory) × Adds (E.view err.old) (E.view err.new) (no_words_text error) }
+    ensures write_fault { result ≡ Status.WriteFault → Rose (E.view err.old).faults (E.view err.new).faults }
+    ensures front { result ≡ Status.WriteFault → AddsFront (E.view err.old) (E.view err.new) (no_words_text error) ⊎ AddsFront (E.view err.old) (E.view err.new) (codes "flow: no memory\n") }
+    ensures no_memory { result ≡ Status.NoMemory → Adds (E.view err.old) (E.view err.new) (codes "flow: no memory\n") }
+{
+    match error {
+        WordsError::Bad { word } => match reply_to_words(alloc, word) {
+            Ok(reply) => tell(err, reply.err.as_slice(), Status::BadWords),
+            Err(AllocError) => tell(err, b"flow: no memory\n", Status::NoMemory),
+        },
+        WordsError::NoMemory => tell(err, b"flow: no memory\n", Status::NoMemory),
+    }
+}
+
 /// Runs the program on the words after its name.
 pub fn run<H: Shelf, O: Sink, E: Sink>(
     alloc: Global,
@@ -124,25 +142,9 @@ pub fn run<H: Shelf, O: Sink, E: Sink>(
     out: &mut O,
     err: &mut E,
 ) -> Status
-    // With a status up to 5 the run told the answer of its words and of the bytes under the file that they name: where both
-    // moduli are prime, and whatever they are where the words or the bytes are refused.
-    ensures answers { code_of result ≤ 5 → Tells (texts words.now) (code_of result) (outside (H.view shelf.old) (O.view out.old) (E.view err.old)) (outside (H.view shelf.new) (O.view out.new) (E.view err.new)) }
-    // Where no device failed, only memory may have been wanting.
-    ensures completes { (FileRose (asked (texts words.now)) (H.view shelf.old) (H.view shelf.new) → ⊥) → (Rose (O.view out.old).faults (O.view out.new).faults → ⊥) → (Rose (E.view err.old).faults (E.view err.new).faults → ⊥) → (code_of result ≤ 5) ⊎ (result ≡ Status.NoMemory) }
-    // Where both moduli are prime, the file that is asked for is a job whose graphs are all learned, and no device failed, all
-    // is well, or only memory was wanting.
-    ensures learned { ModuliArePrime → IsLearnable (texts words.now) (H.view shelf.old) → (FileRose (asked (texts words.now)) (H.view shelf.old) (H.view shelf.new) → ⊥) → (Rose (O.view out.old).faults (O.view out.new).faults → ⊥) → (Rose (E.view err.old).faults (E.view err.new).faults → ⊥) → (result ≡ Status.Done) ⊎ (result ≡ Status.NoMemory) }
-    // Where nothing stands under the file that is asked for, there is no answer.
-    ensures missing { (wish : Request) → asked (texts words.now) ≡ Some wish → (H.view shelf.old).files (file_of wish) ≡ Some None → 6 ≤ code_of result }
-    // Up to 5, status 2 comes exactly with words that ask for nothing.
-    ensures bad_words { code_of result ≤ 5 → (result ≡ Status.BadWords) ↔ (asked (texts words.now) ≡ None) }
-    // Status 6 comes only where the file's count rose; out gets nothing.
-    ensures read_fault { result ≡ Status.ReadFault → FileRose (asked (texts words.now)) (H.view shelf.old) (H.view shelf.new) × TellsOnly (codes "flow: read fault\n") (outside (H.view shelf.old) (O.view out.old) (E.view err.old)) (outside (H.view shelf.new) (O.view out.new) (E.view err.new)) }
-    // Status 7 comes only where a sink's count rose, with fronts of what was to be told: of the answer, right under the same
-    // premise, or of the text of status 6 or 8.
-    ensures write_fault { result ≡ Status.WriteFault → SinkRose (outside (H.view shelf.old) (O.view out.old) (E.view err.old)) (outside (H.view shelf.new) (O.view out.new) (E.view err.new)) × BreaksOff (texts words.now) (outside (H.view shelf.old) (O.view out.old) (E.view err.old)) (outside (H.view shelf.new) (O.view out.new) (E.view err.new)) }
-    // Status 8 leaves nothing on out.
-    ensures no_memory { result ≡ Status.NoMemory → TellsOnly (codes "flow: no memory\n") (outside (H.view shelf.old) (O.view out.old) (E.view err.old)) (outside (H.view shelf.new) (O.view out.new) (E.view err.new)) }
+    ensures { let before = outside (H.view shelf.old) (O.view out.old) (E.view err.old) in
+        let after = outside (H.view shelf.new) (O.view out.new) (E.view err.new) in
+        Runs (texts words.now) before after result }
 {
     match work_out(alloc, words, shelf) {
         Ok(reply) => match deliver(&reply, out, err) {

@@ -10,7 +10,7 @@ use Rattle.std.proofs.Math.ListN.{get_or-append}
 use Rattle.graph_file.specs.declared.graph.Graph.{Graph}
 use Rattle.graph_file.specs.declared.graph.Node.{Node}
 use Rattle.graph_file.specs.declared.graph.NodeKind.{NodeKind}
-use Rattle.graph_file.specs.declared.graph.NodeKind.TheVariants.{Eval, Take, Slice, Chain, Sum, Product, Matmul, Dense}
+use Rattle.graph_file.specs.declared.graph.NodeKind.TheVariants.{Eval, Take, Slice, Chain, Sum, Product, Matmul, Dense, Sparse}
 use Rattle.graph_file.specs.declared.graph.Source.{Source}
 use Rattle.graph_eval.specs.declared.outcome.Cause.{Cause}
 use Rattle.graph_eval.specs.GraphValue.{Meaning, Outcome, Value, SingularAt, named, KindGives, KindFails, NodeGives, NodeFails, FirstLists, GraphMeans, GraphValue, MeansAt, meanings, main_number}
@@ -29,6 +29,7 @@ gives_alone m called learned list (Sum parts) values gives = gives
 gives_alone m called learned list (Product parts) values gives = gives
 gives_alone m called learned list (Matmul left right rows mid cols) values gives = gives
 gives_alone m called learned list (Dense from rows unknowns want) values gives = gives
+gives_alone m called learned list (Sparse from unknowns want rows) values gives = gives
 
 pub fails_alone : (m : ℕ) (called : ℕ → Meaning) (learned : List ℕ) (list : Source → List ℕ) (kind : NodeKind) (cause : Cause) → KindFails m no_graphs learned list kind cause → KindFails m called learned list kind cause
 fails_alone m called learned list (Eval from exprs) cause fails = fails
@@ -39,6 +40,7 @@ fails_alone m called learned list (Sum parts) cause fails = fails
 fails_alone m called learned list (Product parts) cause fails = fails
 fails_alone m called learned list (Matmul left right rows mid cols) cause fails = fails
 fails_alone m called learned list (Dense from rows unknowns want) cause fails = fails
+fails_alone m called learned list (Sparse from unknowns want rows) cause fails = fails
 
 needed_alone : (m : ℕ) (called : ℕ → Meaning) (learned : List ℕ) (list : Source → List ℕ) (kind : NodeKind) (values : List ℕ) (needed : Bool) → MatchBool needed (KindGives m no_graphs learned list kind values) (values ≡ []) → MatchBool needed (KindGives m called learned list kind values) (values ≡ [])
 needed_alone m called learned list kind values true gives = gives_alone m called learned list kind values gives

@@ -7,6 +7,7 @@ use Rattle.std.proofs.lemmas.List.Elements.{All-nil}
 use Rattle.std.proofs.Math.Seq.{get_or-append_seam, take-append_seam, take-length}
 use Rattle.std.proofs.Math.ListN.{get_or-append}
 use Rattle.prime_field.specs.Residue.{IsPrime}
+use Rattle.sparse_solver.specs.Plan.{Plan}
 use Rattle.graph_file.specs.declared.graph.Graph.{Graph}
 use Rattle.graph_file.specs.declared.graph.Node.{Node}
 use Rattle.graph_eval.specs.declared.fresh.Fresh.{Fresh}
@@ -16,9 +17,9 @@ use Rattle.graph_eval.specs.declared.outcome.Cause.{Cause}
 use Rattle.graph_eval.specs.Evaluated.{IsNeededNode, no_graphs}
 use Rattle.graph_eval.specs.Fresh.{BreaksLength, FirstLearned, HasNoValue, IsFresh, IsLearned, IsReached, NodeLearns}
 use Rattle.graph_eval.specs.GraphValue.{Meaning, NodeFails, NodeGives, named}
-use Rattle.graph_eval.specs.Learned.{FitsGraph, IsSetFor, joined_length, kind_length, named_length, node_length}
+use Rattle.graph_eval.specs.Learned.{ArePlans, FitsGraph, IsSetFor, joined_length, kind_length, named_length, node_length}
 use Rattle.graph_eval.proofs.EvaluationLaws.{FirstLists-alone, ListsSoFar, ListsSoFar-longer, fails_alone, goes_on}
-use Rattle.graph_eval.proofs.LengthLaws.{LengthsSoFar, LengthsSoFar-none, LengthsSoFar-sets, fits_graph, one_more}
+use Rattle.graph_eval.proofs.LengthLaws.{LengthsSoFar, LengthsSoFar-none, LengthsSoFar-sets, PlansSoFar, fits_graph, one_more, plans_all}
 
 -- what was learned of the first so many nodes
 pub record LearnedSoFar (m : ℕ) (graph : Graph) (inputs : List ℕ) (sets : List (List ℕ)) (lengths : List ℕ) (lists : List (List ℕ)) (count total : ℕ) : Type 0 where
@@ -145,19 +146,23 @@ module _ (m : ℕ) (graph : Graph) (inputs : List ℕ) (sets : List (List ℕ)) 
       some_before n below = sym (take-append-le n lists (values ∷ []) (omega (arith, so_far.given.many))) ∙ ap (take n) (sym lists_joined)
 
 -- with every node, all is learned
-module _ (m : ℕ) (graph : Graph) (inputs : List ℕ) (sets : List (List ℕ)) (lengths : List ℕ) (lists : List (List ℕ)) (place total count : ℕ) (learned : GraphLearned) (so_far : LearnedSoFar m graph inputs sets lengths lists place total) (all : place ≡ length graph.nodes) (count_is : count ≡ length graph.inputs)
-    (sets_are : learned.sets ≡ sets) (lengths_are : learned.lengths ≡ lengths) (output_is : learned.output ≡ named_length count lengths graph.output) where
+module _ (m : ℕ) (graph : Graph) (inputs : List ℕ) (sets : List (List ℕ)) (plans : List (Option Plan)) (lengths : List ℕ) (lists : List (List ℕ)) (place total count : ℕ) (learned : GraphLearned) (so_far : LearnedSoFar m graph inputs sets lengths lists place total) (all : place ≡ length graph.nodes) (count_is : count ≡ length graph.inputs)
+    (planned : PlansSoFar graph.nodes sets plans place) (sets_are : learned.sets ≡ sets) (plans_are : learned.plans ≡ plans) (lengths_are : learned.lengths ≡ lengths) (output_is : learned.output ≡ named_length count lengths graph.output) where
+  have_plans : ArePlans graph.nodes sets learned.plans
+  have_plans = subst (ArePlans graph.nodes sets) (sym plans_are) (plans_all graph.nodes sets plans place planned all)
+
   pub learned_all : learned.point ≡ None → IsPrime m → IsLearned m no_graphs graph inputs learned
   learned_all no_point prime = record {
     lists = lists;
     first = subst (λ (ss : List (List ℕ)). FirstLearned m no_graphs graph inputs ss learned.lengths lists) (sym sets_are) (subst (λ (ls : List ℕ). FirstLearned m no_graphs graph inputs sets ls lists) (sym lengths_are) (first_learned m graph inputs sets lengths lists place total so_far prime));
     all = so_far.given.many ∙ all;
+    plans = subst (λ (ss : List (List ℕ)). ArePlans graph.nodes ss learned.plans) (sym sets_are) have_plans;
     output = output_is ∙ ap (λ n. named_length n lengths graph.output) count_is ∙ ap (λ ls. named_length (length graph.inputs) ls graph.output) (sym lengths_are);
     point = no_point;
   }
 
   pub learned_fits : FitsGraph graph learned
-  learned_fits = fits_graph graph sets lengths place total count learned so_far.measured all count_is so_far.many so_far.fits sets_are lengths_are output_is
+  learned_fits = fits_graph graph sets lengths place total count learned so_far.measured all count_is so_far.many so_far.fits have_plans sets_are lengths_are output_is
 
 -- what is learned of a graph doesn't rest on other graphs
 first_alone : (m : ℕ) (called : ℕ → Meaning) (graph : Graph) (inputs : List ℕ) (sets : List (List ℕ)) (lengths : List ℕ) (lists : List (List ℕ)) → FirstLearned m no_graphs graph inputs sets lengths lists → FirstLearned m called graph inputs sets lengths lists
@@ -188,6 +193,7 @@ fresh_alone m called graph inputs (fresh.Learned learned) is = record {
   lists = is.lists;
   first = first_alone m called graph inputs learned.sets learned.lengths is.lists is.first;
   all = is.all;
+  plans = is.plans;
   output = is.output;
   point = is.point;
 }

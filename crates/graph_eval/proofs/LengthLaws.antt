@@ -1,17 +1,23 @@
 -- The lengths of a graph's lists, one node after the other.
-use Rattle.std.proofs.Common.{◌≡◌, ℕ, ◌+◌, ◌<◌, ◌≤◌, List, [], ◌∷◌, ◌++◌, All, length, take, get_or, sum, Option, Some, None, refl, sym, ◌∙◌, ap, subst, length-append, arith, inl, inr}
+use Rattle.std.proofs.Common.{◌≡◌, ℕ, ◌+◌, ◌<◌, ◌≤◌, ◌&&◌, Bool, true, false, if◌then◌else◌, List, [], ◌∷◌, ◌++◌, All, length, take, get_or, sum, Option, Some, None, refl, sym, ◌∙◌, ap, subst, length-append, arith, inl, inr}
 use Rattle.std.specs.Prelude.{slice_get, slice_index_or, IfSome}
 use Rattle.graph_eval.specs.declared.learned.GraphLearned.{GraphLearned}
-use Rattle.std.proofs.lemmas.Bool.{cases_eq}
-use Rattle.std.proofs.lemmas.Option.{slice_get_within}
+use Rattle.std.specs.List.{list_any}
+use Rattle.std.proofs.lemmas.Bool.{cases_eq, false≢true}
+use Rattle.std.proofs.lemmas.List.Folds.{list_any_at}
+use Rattle.std.proofs.lemmas.Option.{get_or_from_slice_get, slice_get_within}
 use Rattle.std.proofs.lemmas.List.{take-append-le}
 use Rattle.std.proofs.Math.Seq.{take-append_seam, get_or-append_seam}
 use Rattle.std.proofs.Math.ListN.{get_or-append}
 use Rattle.std.proofs.lemmas.List.Elements.{All-nil, All-push, All-same}
 use Rattle.std.proofs.lemmas.List.Sums.{sum_by_push}
+use Rattle.elim_core.proofs.Told.{bool_cases}
+use Rattle.sparse_solver.specs.Plan.{Plan}
 use Rattle.graph_file.specs.declared.graph.Graph.{Graph}
 use Rattle.graph_file.specs.declared.graph.Node.{Node}
-use Rattle.graph_eval.specs.Learned.{AreEmpty, FirstLengths, FitsGraph, FailsLength, IsSetFor, named_length, node_length}
+use Rattle.graph_file.specs.declared.graph.NodeKind.{NodeKind}
+use Rattle.graph_file.specs.declared.graph.NodeKind.TheVariants.{Eval, Take, Slice, Chain, Sum, Product, Matmul, Dense, Sparse}
+use Rattle.graph_eval.specs.Learned.{AreEmpty, AreNone, ArePlans, FirstLengths, FitsGraph, FailsLength, IsSetFor, has_solver, is_solver, is_system, kind_plan, named_length, node_length, plan_of}
 use Rattle.graph_eval.proofs.ShapeLaws.{empty_set_for}
 
 -- no length yet
@@ -104,18 +110,81 @@ fails_here graph lengths place total inputs earlier node answer so_far is inputs
 -- with every node's set and length, and the output's length
 pub fits_graph : (graph : Graph) (sets : List (List ℕ)) (lengths : List ℕ) (place total inputs : ℕ) (learned : GraphLearned) → LengthsSoFar graph sets lengths place total → place ≡ length graph.nodes → inputs ≡ length graph.inputs
     → length sets ≡ place → ((n : ℕ) (node : Node) → n < place → slice_get graph.nodes n ≡ Some node → IsSetFor node (slice_index_or sets n []))
-    → learned.sets ≡ sets → learned.lengths ≡ lengths → learned.output ≡ named_length inputs lengths graph.output → FitsGraph graph learned
-fits_graph graph sets lengths place total inputs learned so_far all inputs_is many each sets_is lengths_is output_is = record {
+    → ArePlans graph.nodes sets learned.plans → learned.sets ≡ sets → learned.lengths ≡ lengths → learned.output ≡ named_length inputs lengths graph.output → FitsGraph graph learned
+fits_graph graph sets lengths place total inputs learned so_far all inputs_is many each plans sets_is lengths_is output_is = record {
   many = ap length sets_is ∙ many ∙ all;
   sets = λ n node is. subst (λ (ss : List (List ℕ)). IsSetFor node (slice_index_or ss n [])) (sym sets_is) (each n node (omega (arith, all, slice_get_within graph.nodes n node is)) is);
+  plans = subst (λ (ss : List (List ℕ)). ArePlans graph.nodes ss learned.plans) (sym sets_is) plans;
   first = subst (λ (ss : List (List ℕ)). FirstLengths graph ss learned.lengths) (sym sets_is) (subst (FirstLengths graph sets) (sym lengths_is) so_far.first);
   all = ap length lengths_is ∙ so_far.many ∙ all;
   output = output_is ∙ ap (λ n. named_length n lengths graph.output) inputs_is ∙ ap (λ ls. named_length (length graph.inputs) ls graph.output) (sym lengths_is);
 }
 
+-- where no needed node is a solver, none is one
+any_false : {X : Type 0} (test : X → Bool) (xs : List X) → list_any test xs ≡ false → (n : ℕ) (x : X) → slice_get xs n ≡ Some x → test x ≡ false
+any_false test xs none n x at =
+    elim (bool_cases (test x)) [
+      | inl holds ↦ absurd (false≢true (sym none ∙ list_any_at test xs n x (slice_get_within xs n x at) (ap test (get_or_from_slice_get xs n x x at) ∙ holds)))
+      | inr fails ↦ fails
+    ]
+
+pub no_solver : (graph : Graph) (n : ℕ) (node : Node) → has_solver graph ≡ false → slice_get graph.nodes n ≡ Some node → is_solver node ≡ false
+no_solver graph n node plain is = any_false is_solver graph.nodes plain n node is
+
+-- where no needed node is a solver, no node has a plan
+plain_plan : (needed : Bool) (kind : NodeKind) (set : List ℕ) → (needed && is_system kind) ≡ false → (if needed then kind_plan set kind else None) ≡ None
+plain_plan false kind set plain = refl
+plain_plan true (Eval from exprs) set plain = refl
+plain_plan true (Take parts) set plain = refl
+plain_plan true (Slice from first last) set plain = refl
+plain_plan true (Chain parts) set plain = refl
+plain_plan true (Sum parts) set plain = refl
+plain_plan true (Product parts) set plain = refl
+plain_plan true (Matmul left right rows mid cols) set plain = refl
+plain_plan true (Dense from rows unknowns want) set plain = refl
+plain_plan true (Sparse from unknowns want rows) set plain = absurd (false≢true (sym plain))
+
+plain_plans : (graph : Graph) (sets : List (List ℕ)) (plans : List (Option Plan)) → has_solver graph ≡ false → length plans ≡ length graph.nodes → ((n : ℕ) → slice_index_or plans n None ≡ None) → ArePlans graph.nodes sets plans
+plain_plans graph sets plans plain many none = record {
+  many = many;
+  each = λ n node is. none n ∙ sym (plain_plan node.needed node.kind (slice_index_or sets n []) (no_solver graph n node plain is));
+}
+
 -- the same where nothing is learned for any node
-pub fits_plain : (graph : Graph) (lengths : List ℕ) (place total inputs count : ℕ) (learned : GraphLearned) → LengthsSoFar graph [] lengths place total → place ≡ length graph.nodes → inputs ≡ length graph.inputs → count ≡ length graph.nodes
-    → AreEmpty count learned.sets → learned.lengths ≡ lengths → learned.output ≡ named_length inputs lengths graph.output → FitsGraph graph learned
-fits_plain graph lengths place total inputs count learned so_far all inputs_is count_is empty =
+pub fits_plain : (graph : Graph) (lengths : List ℕ) (place total inputs count : ℕ) (learned : GraphLearned) → has_solver graph ≡ false → LengthsSoFar graph [] lengths place total → place ≡ length graph.nodes → inputs ≡ length graph.inputs → count ≡ length graph.nodes
+    → AreEmpty count learned.sets → AreNone count learned.plans → learned.lengths ≡ lengths → learned.output ≡ named_length inputs lengths graph.output → FitsGraph graph learned
+fits_plain graph lengths place total inputs count learned plain so_far all inputs_is count_is empty none =
     fits_graph graph learned.sets lengths place total inputs learned (LengthsSoFar-sets graph [] learned.sets lengths place total (λ n below. sym (empty.each n)) so_far) all inputs_is (empty.many ∙ count_is ∙ sym all)
-    (λ n node below is. subst (IsSetFor node) (sym (empty.each n)) (empty_set_for node)) refl
+    (λ n node below is. subst (IsSetFor node) (sym (empty.each n)) (empty_set_for node)) (plain_plans graph learned.sets learned.plans plain (none.many ∙ count_is) none.each) refl
+
+-- the plans of the first so many nodes
+pub record PlansSoFar (nodes : List Node) (sets : List (List ℕ)) (plans : List (Option Plan)) (count : ℕ) : Type 0 where
+  pub many : length plans ≡ count
+  pub each : (n : ℕ) (node : Node) → n < count → slice_get nodes n ≡ Some node → slice_index_or plans n None ≡ plan_of (slice_index_or sets n []) node
+
+pub PlansSoFar-none : (nodes : List Node) → PlansSoFar nodes [] [] 0
+PlansSoFar-none nodes = record { many = refl; each = λ n node below is. absurd (omega arith) }
+
+-- one more plan
+pub PlansSoFar-more : (nodes : List Node) (sets more_sets : List (List ℕ)) (plans more : List (Option Plan)) (count : ℕ) (node : Node) (set : List ℕ) (plan : Option Plan) → PlansSoFar nodes sets plans count → length sets ≡ count → slice_get nodes count ≡ Some node
+    → plan ≡ plan_of set node → more_sets ≡ sets ++ set ∷ [] → more ≡ plans ++ plan ∷ [] → PlansSoFar nodes more_sets more (count + 1)
+PlansSoFar-more nodes sets more_sets plans more count node set plan so_far sets_many is planned sets_joined joined = record {
+  many = ap length joined ∙ length-append plans (plan ∷ []) ∙ ap (λ n. n + 1) so_far.many;
+  each = λ n other below at. elim (cases_eq n count) [
+    | inl e ↦
+        let both : Some node ≡ Some other = sym is ∙ ap (slice_get nodes) (sym e) ∙ at in
+        let same : node ≡ other = cc in
+        let here : slice_index_or more n None ≡ plan = ap (λ ps. slice_index_or ps n None) joined ∙ ap (λ k. slice_index_or (plans ++ plan ∷ []) k None) (e ∙ sym so_far.many) ∙ get_or-append_seam plans plan [] None in
+        let set_here : slice_index_or more_sets n [] ≡ set = ap (λ ss. slice_index_or ss n []) sets_joined ∙ ap (λ k. slice_index_or (sets ++ set ∷ []) k []) (e ∙ sym sets_many) ∙ get_or-append_seam sets set [] [] in
+        here ∙ planned ∙ ap (plan_of set) same ∙ ap (λ s. plan_of s other) (sym set_here)
+    | inr ne ↦
+        let earlier : n < count = omega arith in
+        let here : slice_index_or more n None ≡ slice_index_or plans n None = ap (λ ps. slice_index_or ps n None) joined ∙ get_or-append plans (plan ∷ []) None n (omega (arith, so_far.many)) in
+        let set_here : slice_index_or more_sets n [] ≡ slice_index_or sets n [] = ap (λ ss. slice_index_or ss n []) sets_joined ∙ get_or-append sets (set ∷ []) [] n (omega (arith, sets_many)) in
+        here ∙ so_far.each n other earlier at ∙ ap (λ s. plan_of s other) (sym set_here)
+  ];
+}
+
+-- with every node's plan
+pub plans_all : (nodes : List Node) (sets : List (List ℕ)) (plans : List (Option Plan)) (count : ℕ) → PlansSoFar nodes sets plans count → count ≡ length nodes → ArePlans nodes sets plans
+plans_all nodes sets plans count so_far all = record { many = so_far.many ∙ all; each = λ n node is. so_far.each n node (omega (arith, slice_get_within nodes n node is)) is }

@@ -6,8 +6,10 @@ pub mod LengthLaws
 pub mod OneFresh
 pub mod OneLength
 pub mod OneValue
+mod OwnLaws
 pub mod Places
 mod Room
 mod ShapeLaws
+mod SparseLaws
 pub mod SystemLaws
 mod Writing

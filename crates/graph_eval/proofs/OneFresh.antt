@@ -3,10 +3,13 @@ use Rattle.std.proofs.Common.{◌≡◌, ℕ, zero, suc, ◌+◌, ◌*◌, ◌<�
 use Rattle.std.specs.Prelude.{slice_index_or}
 use Rattle.std.proofs.lemmas.Option.{slice_get_within}
 use Rattle.std.proofs.Math.Seq.{take-suc, take-length}
+use Rattle.elim_core.specs.Solved.{IsOwnSet}
+use Rattle.elim_core.specs.Sparse.{entries_of, rows_with}
+use Rattle.elim_core.proofs.OwnSets.{own_set_once}
 use Rattle.graph_file.specs.declared.graph.Graph.{Graph}
 use Rattle.graph_file.specs.declared.graph.Node.{Node}
 use Rattle.graph_file.specs.declared.graph.NodeKind.{NodeKind}
-use Rattle.graph_file.specs.declared.graph.NodeKind.TheVariants.{Eval, Take, Slice, Chain, Sum, Product, Matmul, Dense}
+use Rattle.graph_file.specs.declared.graph.NodeKind.TheVariants.{Eval, Take, Slice, Chain, Sum, Product, Matmul, Dense, Sparse}
 use Rattle.graph_file.specs.declared.graph.Source.{Source}
 use Rattle.graph_eval.specs.declared.fresh.Fresh.{Fresh}
 use Rattle.graph_eval.specs.declared.fresh.Fresh.TheVariants as fresh
@@ -16,11 +19,10 @@ use Rattle.graph_eval.specs.declared.outcome.Singular.{Singular}
 use Rattle.graph_eval.specs.Fresh.{BreaksLength, FirstLearned, HasNoValue, IsFresh, IsFreshAt, IsLearned, IsReached, KindLearns, NodeLearns}
 use Rattle.graph_eval.specs.GraphValue.{Meaning, NodeFails, NodeGives, meanings, named}
 use Rattle.graph_eval.specs.Learned.{named_length, node_length}
-use Rattle.graph_eval.specs.Systems.{IsOwnSet, rows_in}
-use Rattle.graph_eval.proofs.OneLength.{learned_same}
+use Rattle.graph_eval.specs.Systems.{rows_in}
+use Rattle.graph_eval.proofs.OneLength.{learned_same, plans_same}
 use Rattle.graph_eval.proofs.OneValue.{kind_fails, node_clash, node_gives}
 use Rattle.graph_eval.proofs.Places.{stands}
-use Rattle.graph_eval.proofs.SystemLaws.{own_set_once}
 
 -- a node learns one set
 own_of_once : (m u : ℕ) (rows : List (List ℕ)) (whole : Bool) (a b : List ℕ) → MatchBool whole (IsOwnSet m u rows a) (a ≡ []) → MatchBool whole (IsOwnSet m u rows b) (b ≡ []) → a ≡ b
@@ -36,6 +38,7 @@ kind_learns m list (Sum parts) a b first second = first ∙ sym second
 kind_learns m list (Product parts) a b first second = first ∙ sym second
 kind_learns m list (Matmul left right rows mid cols) a b first second = first ∙ sym second
 kind_learns m list (Dense from rows unknowns want) a b first second = own_of_once m unknowns (rows_in rows unknowns (list from)) (length (list from) == rows * (unknowns + 1)) a b first second
+kind_learns m list (Sparse from unknowns want rows) a b first second = own_of_once m unknowns (rows_with unknowns rows (list from)) (length (list from) == entries_of rows) a b first second
 
 node_learns : (m : ℕ) (list : Source → List ℕ) (kind : NodeKind) (needed : Bool) (a b : List ℕ) → MatchBool needed (KindLearns m list kind a) (a ≡ []) → MatchBool needed (KindLearns m list kind b) (b ≡ []) → a ≡ b
 node_learns m list kind true a b first second = kind_learns m list kind a b first second
@@ -176,6 +179,7 @@ module _ (m : ℕ) (called : ℕ → Meaning) (graph : Graph) (inputs : List ℕ
       let lengths : a.lengths ≡ b.lengths = sym (take-length a.lengths) ∙ ap (λ k. take k a.lengths) (first.first.many_lengths ∙ first.all) ∙ same.lengths ∙ ap (λ k. take k b.lengths) (sym (second.first.many_lengths ∙ second.all)) ∙ take-length b.lengths in
       let sets : a.sets ≡ b.sets = sym (take-length a.sets) ∙ ap (λ k. take k a.sets) (first.first.many_sets ∙ first.all) ∙ same.sets ∙ ap (λ k. take k b.sets) (sym (second.first.many_sets ∙ second.all)) ∙ take-length b.sets in
       learned_same a b (first.point ∙ sym second.point) (first.output ∙ ap (λ ls. named_length (length graph.inputs) ls graph.output) lengths ∙ sym second.output) lengths sets
+      (plans_same graph.nodes a.sets b.sets a.plans b.plans sets first.plans second.plans)
 
   singular_same : (a b : Singular) → a.node ≡ b.node → a.cause ≡ b.cause → a ≡ b
   singular_same a b node cause =

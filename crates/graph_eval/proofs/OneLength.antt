@@ -1,34 +1,25 @@
 -- The lists of a graph have at most one length each.
-use Rattle.std.proofs.Common.{◌≡◌, ℕ, zero, suc, ◌<◌, ◌≤◌, ◌&&◌, Bool, true, false, MatchBool, List, [], ◌∷◌, ◌++◌, length, take, get_or, Some, None, inl, inr, refl, sym, ◌∙◌, ap, subst, arith}
+use Rattle.std.proofs.Common.{◌≡◌, ℕ, zero, suc, ◌<◌, ◌≤◌, ◌&&◌, Bool, true, false, MatchBool, List, [], ◌∷◌, ◌++◌, length, take, get_or, Option, Some, None, inl, inr, refl, sym, ◌∙◌, ap, subst, arith}
 use Rattle.std.specs.Prelude.{slice_get, slice_index_or}
-use Rattle.std.specs.List.{list_any}
 use Rattle.std.proofs.lemmas.Bool.{cases_lt, false≢true}
 use Rattle.std.proofs.lemmas.List.{get_or_past}
-use Rattle.std.proofs.lemmas.List.Folds.{list_any_at}
-use Rattle.std.proofs.lemmas.Option.{get_or_from_slice_get, slice_get_within}
+use Rattle.std.proofs.lemmas.Option.{slice_get_within}
 use Rattle.std.proofs.Math.Seq.{take-suc, take-length}
-use Rattle.elim_core.proofs.Told.{bool_cases}
+use Rattle.sparse_solver.specs.Plan.{Plan}
 use Rattle.graph_file.specs.declared.graph.Graph.{Graph}
 use Rattle.graph_file.specs.declared.graph.Node.{Node}
 use Rattle.graph_file.specs.declared.graph.NodeKind.{NodeKind}
-use Rattle.graph_file.specs.declared.graph.NodeKind.TheVariants.{Eval, Take, Slice, Chain, Sum, Product, Matmul, Dense}
+use Rattle.graph_file.specs.declared.graph.NodeKind.TheVariants.{Eval, Take, Slice, Chain, Sum, Product, Matmul, Dense, Sparse}
 use Rattle.graph_eval.specs.declared.fresh.Fresh.{Fresh}
 use Rattle.graph_eval.specs.declared.fresh.Fresh.TheVariants as fresh
 use Rattle.graph_eval.specs.declared.learned.GraphLearned.{GraphLearned}
 use Rattle.graph_eval.specs.Fresh.{IsMeasured, IsMeasuredAt}
-use Rattle.graph_eval.specs.Learned.{FirstLengths, FitsGraph, FailsLength, IsKindSet, IsPlainAt, has_solver, is_dense, is_solver, named_length, node_length}
-use Rattle.graph_eval.proofs.LengthLaws.{FirstLengths-sets}
+use Rattle.graph_eval.specs.Learned.{ArePlans, FirstLengths, FitsGraph, FailsLength, IsKindSet, IsPlainAt, has_solver, is_system, named_length, node_length, plan_of}
+use Rattle.graph_eval.proofs.LengthLaws.{FirstLengths-sets, no_solver}
 use Rattle.graph_eval.proofs.Places.{stands}
 
 -- where no needed node is a solver, no node has a set
-any_false : {X : Type 0} (test : X → Bool) (xs : List X) → list_any test xs ≡ false → (n : ℕ) (x : X) → slice_get xs n ≡ Some x → test x ≡ false
-any_false test xs none n x at =
-    elim (bool_cases (test x)) [
-      | inl holds ↦ absurd (false≢true (sym none ∙ list_any_at test xs n x (slice_get_within xs n x at) (ap test (get_or_from_slice_get xs n x x at) ∙ holds)))
-      | inr fails ↦ fails
-    ]
-
-plain_set : (needed : Bool) (kind : NodeKind) (set : List ℕ) → (needed && is_dense kind) ≡ false → MatchBool needed (IsKindSet kind set) (set ≡ []) → set ≡ []
+plain_set : (needed : Bool) (kind : NodeKind) (set : List ℕ) → (needed && is_system kind) ≡ false → MatchBool needed (IsKindSet kind set) (set ≡ []) → set ≡ []
 plain_set false kind set plain none = none
 plain_set true (Eval from exprs) set plain none = none
 plain_set true (Take parts) set plain none = none
@@ -38,22 +29,29 @@ plain_set true (Sum parts) set plain none = none
 plain_set true (Product parts) set plain none = none
 plain_set true (Matmul left right rows mid cols) set plain none = none
 plain_set true (Dense from rows unknowns want) set plain learned = absurd (false≢true (sym plain))
+plain_set true (Sparse from unknowns want rows) set plain learned = absurd (false≢true (sym plain))
 
--- lists of empty lists
-empty_same : (xs ys : List (List ℕ)) → length xs ≡ length ys → ((n : ℕ) → slice_index_or xs n [] ≡ []) → ((n : ℕ) → slice_index_or ys n [] ≡ []) → xs ≡ ys
-empty_same [] [] same xs_empty ys_empty = refl
-empty_same [] (y ∷ ys) same xs_empty ys_empty = absurd (omega arith)
-empty_same (x ∷ xs) [] same xs_empty ys_empty = absurd (omega arith)
-empty_same (x ∷ xs) (y ∷ ys) same xs_empty ys_empty =
-    ap (λ z. z ∷ xs) (xs_empty 0 ∙ sym (ys_empty 0)) ∙ ap (λ zs. y ∷ zs) (empty_same xs ys (omega arith) (λ n. xs_empty (suc n)) (λ n. ys_empty (suc n)))
+-- lists with the same at each place are one
+same_at : {X : Type 0} (d : X) (xs ys : List X) → length xs ≡ length ys → ((n : ℕ) → n < length xs → slice_index_or xs n d ≡ slice_index_or ys n d) → xs ≡ ys
+same_at d [] [] same each = refl
+same_at d [] (y ∷ ys) same each = absurd (omega arith)
+same_at d (x ∷ xs) [] same each = absurd (omega arith)
+same_at d (x ∷ xs) (y ∷ ys) same each =
+    ap (λ z. z ∷ xs) (each 0 (omega arith)) ∙ ap (λ zs. y ∷ zs) (same_at d xs ys (omega arith) (λ n below. each (suc n) (omega arith)))
+
+-- the plans of nodes over the same sets are one
+pub plans_same : (nodes : List Node) (sets others : List (List ℕ)) (plans more : List (Option Plan)) → sets ≡ others → ArePlans nodes sets plans → ArePlans nodes others more → plans ≡ more
+plans_same nodes sets others plans more same first second = same_at None plans more (first.many ∙ sym second.many) (λ n below.
+    let node = stands nodes n (omega (arith, first.many)) in
+    first.each n node.0 node.1 ∙ ap (λ ss. plan_of (slice_index_or ss n []) node.0) same ∙ sym (second.each n node.0 node.1))
 
 -- two entries with the same in them are one
-pub learned_same : (a b : GraphLearned) → a.point ≡ b.point → a.output ≡ b.output → a.lengths ≡ b.lengths → a.sets ≡ b.sets → a ≡ b
-learned_same a b point output lengths sets =
-    ap (λ p. let g : GraphLearned = record { point = p; output = a.output; lengths = a.lengths; sets = a.sets } in g) point
-    ∙ ap (λ o. let g : GraphLearned = record { point = b.point; output = o; lengths = a.lengths; sets = a.sets } in g) output
-    ∙ ap (λ ls. let g : GraphLearned = record { point = b.point; output = b.output; lengths = ls; sets = a.sets } in g) lengths
-    ∙ ap (λ ss. let g : GraphLearned = record { point = b.point; output = b.output; lengths = b.lengths; sets = ss } in g) sets
+pub learned_same : (a b : GraphLearned) → a.point ≡ b.point → a.output ≡ b.output → a.lengths ≡ b.lengths → a.sets ≡ b.sets → a.plans ≡ b.plans → a ≡ b
+learned_same a b point output lengths sets plans =
+    ap (λ p. record a { point = p }) point ∙ ap (λ o. record a { point = b.point; output = o }) output
+    ∙ ap (λ ls. record a { point = b.point; output = b.output; lengths = ls }) lengths
+    ∙ ap (λ ss. record b { sets = ss; plans = a.plans }) sets
+    ∙ ap (λ ps. record b { plans = ps }) plans
 
 module _ (graph : Graph) (sets : List (List ℕ)) where
   -- two lists of the first nodes' lengths agree as far as both go
@@ -89,6 +87,9 @@ module _ (graph : Graph) where
   pub output_once : (a b : GraphLearned) → a.sets ≡ b.sets → FitsGraph graph a → FitsGraph graph b → a.output ≡ b.output
   output_once a b sets first second = first.output ∙ ap (λ ls. named_length (length graph.inputs) ls graph.output) (lengths_once a b sets first second) ∙ sym second.output
 
+  pub plans_once : (a b : GraphLearned) → a.sets ≡ b.sets → FitsGraph graph a → FitsGraph graph b → a.plans ≡ b.plans
+  plans_once a b sets first second = plans_same graph.nodes a.sets b.sets a.plans b.plans sets first.plans second.plans
+
   -- the node whose rule fails stands where the lengths before it end
   fails_at : (n : ℕ) (is : FailsLength graph n) → slice_get graph.nodes (length is.lengths) ≡ Some is.node
   fails_at n is = ap (slice_get graph.nodes) is.before ∙ is.is_node
@@ -110,14 +111,13 @@ module _ (graph : Graph) where
         elim (cases_lt n (length a.sets)) [
           | inl below ↦
               let node = stands graph.nodes n (omega (arith, fits.many)) in
-              let no_solver : is_solver node.0 ≡ false = any_false is_solver graph.nodes plain n node.0 node.1 in
-              plain_set node.0.needed node.0.kind (slice_index_or a.sets n []) no_solver (fits.sets n node.0 node.1)
+              plain_set node.0.needed node.0.kind (slice_index_or a.sets n []) (no_solver graph n node.0 plain node.1) (fits.sets n node.0 node.1)
           | inr past ↦ get_or_past a.sets n [] past
         ]
 
     pub sets_once : (a b : GraphLearned) → FitsGraph graph a → FitsGraph graph b → a.sets ≡ b.sets
     sets_once a b first second =
-        empty_same a.sets b.sets (first.many ∙ sym second.many) (none_learned a first) (none_learned b second)
+        same_at [] a.sets b.sets (first.many ∙ sym second.many) (λ n below. none_learned a first n ∙ sym (none_learned b second n))
 
     pub fits_or_fails : (a : GraphLearned) (n : ℕ) → FitsGraph graph a → FailsLength graph n → ⊥
     fits_or_fails a n first second =
@@ -128,7 +128,7 @@ module _ (graph : Graph) where
     entry_once : (a b : GraphLearned) → (a.point ≡ None) × FitsGraph graph a → (b.point ≡ None) × FitsGraph graph b → a ≡ b
     entry_once a b first second =
         let sets : a.sets ≡ b.sets = sets_once a b first.1 second.1 in
-        learned_same a b (first.0 ∙ sym second.0) (output_once a b sets first.1 second.1) (lengths_once a b sets first.1 second.1) sets
+        learned_same a b (first.0 ∙ sym second.0) (output_once a b sets first.1 second.1) (lengths_once a b sets first.1 second.1) sets (plans_once a b sets first.1 second.1)
 
     measured_once : (a b : Fresh) → IsMeasured graph a → IsMeasured graph b → a ≡ b
     measured_once (fresh.Learned a) (fresh.Learned b) first second = ap fresh.Learned (entry_once a b first second)

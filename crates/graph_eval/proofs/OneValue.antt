@@ -4,15 +4,16 @@ use Rattle.std.specs.Prelude.{slice_get, slice_index_or}
 use Rattle.std.proofs.lemmas.Bool.{false≢true}
 use Rattle.std.proofs.lemmas.Option.{slice_get_within}
 use Rattle.std.proofs.Math.Seq.{take-suc, take-length}
+use Rattle.elim_core.specs.Sparse.{rows_with}
+use Rattle.elim_core.proofs.OwnSets.{solved_once}
 use Rattle.graph_file.specs.declared.graph.Graph.{Graph}
 use Rattle.graph_file.specs.declared.graph.Node.{Node}
 use Rattle.graph_file.specs.declared.graph.NodeKind.{NodeKind}
-use Rattle.graph_file.specs.declared.graph.NodeKind.TheVariants.{Eval, Take, Slice, Chain, Sum, Product, Matmul, Dense}
+use Rattle.graph_file.specs.declared.graph.NodeKind.TheVariants.{Eval, Take, Slice, Chain, Sum, Product, Matmul, Dense, Sparse}
 use Rattle.graph_file.specs.declared.graph.Source.{Source}
 use Rattle.graph_eval.specs.declared.outcome.Cause.{Cause}
 use Rattle.graph_eval.specs.Systems.{rows_in}
 use Rattle.graph_eval.proofs.Places.{stands}
-use Rattle.graph_eval.proofs.SystemLaws.{solved_once}
 use Rattle.graph_eval.specs.GraphValue.{Meaning, Outcome, Value, SingularAt, named, KindGives, KindFails, NodeGives, NodeFails, FirstLists, IsValue, IsSingular, GraphMeans, GraphValue, MeansAt, meanings}
 
 -- a node of one kind gives one list, or fails for one cause, and never both
@@ -25,6 +26,7 @@ kind_gives m called learned list (Sum parts) xs ys large first second = first �
 kind_gives m called learned list (Product parts) xs ys large first second = first ∙ sym second
 kind_gives m called learned list (Matmul left right rows mid cols) xs ys large first second = first ∙ sym second
 kind_gives m called learned list (Dense from rows unknowns want) xs ys large first second = solved_once m unknowns (rows_in rows unknowns (list from)) learned want xs ys large first second
+kind_gives m called learned list (Sparse from unknowns want rows) xs ys large first second = solved_once m unknowns (rows_with unknowns rows (list from)) learned want xs ys large first second
 
 pub kind_fails : (m : ℕ) (called : ℕ → Meaning) (learned : List ℕ) (list : Source → List ℕ) (kind : NodeKind) (a b : Cause) → KindFails m called learned list kind a → KindFails m called learned list kind b → a ≡ b
 kind_fails m called learned list (Eval from exprs) a b first second = first.1 ∙ sym second.1
@@ -35,6 +37,7 @@ kind_fails m called learned list (Sum parts) a b first second = absurd first
 kind_fails m called learned list (Product parts) a b first second = absurd first
 kind_fails m called learned list (Matmul left right rows mid cols) a b first second = absurd first
 kind_fails m called learned list (Dense from rows unknowns want) a b first second = first.1 ∙ sym second.1
+kind_fails m called learned list (Sparse from unknowns want rows) a b first second = first.1 ∙ sym second.1
 
 kind_clash : (m : ℕ) (called : ℕ → Meaning) (learned : List ℕ) (list : Source → List ℕ) (kind : NodeKind) (xs : List ℕ) (cause : Cause) → KindGives m called learned list kind xs → KindFails m called learned list kind cause → ⊥
 kind_clash m called learned list (Eval from exprs) xs cause gives fails = let both : Some xs ≡ None = sym gives ∙ fails.0 in cc
@@ -45,6 +48,7 @@ kind_clash m called learned list (Sum parts) xs cause gives fails = absurd fails
 kind_clash m called learned list (Product parts) xs cause gives fails = absurd fails
 kind_clash m called learned list (Matmul left right rows mid cols) xs cause gives fails = absurd fails
 kind_clash m called learned list (Dense from rows unknowns want) xs cause gives fails = fails.0 (record { multiples = gives.solved.c; constant = gives.solved.d; tells = gives.solved.tells })
+kind_clash m called learned list (Sparse from unknowns want rows) xs cause gives fails = fails.0 (record { multiples = gives.solved.c; constant = gives.solved.d; tells = gives.solved.tells })
 
 pub node_gives : (m : ℕ) (called : ℕ → Meaning) (learned : List ℕ) (list : Source → List ℕ) (kind : NodeKind) (needed : Bool) (xs ys : List ℕ) → 1 < m → MatchBool needed (KindGives m called learned list kind xs) (xs ≡ []) → MatchBool needed (KindGives m called learned list kind ys) (ys ≡ []) → xs ≡ ys
 node_gives m called learned list kind true xs ys large first second = kind_gives m called learned list kind xs ys large first second

@@ -1,13 +1,15 @@
 -- What a node's length says of the lists that it names.
-use Rattle.std.proofs.Common.{◌≡◌, Result, Ok, Err, ℕ, ◌+◌, ◌-◌, ◌*◌, ◌≤◌, Bool, true, false, List, [], ◌∷◌, All, length, map, get_or, sum, Some, None, refl, sym, ◌∙◌, ap, subst, arith}
+use Rattle.std.proofs.Common.{◌≡◌, Result, Ok, Err, ℕ, ◌+◌, ◌-◌, ◌*◌, ◌<◌, ◌≤◌, Bool, true, false, IsTrue, List, [], ◌∷◌, All, length, map, get_or, sum, Some, None, refl, sym, ◌∙◌, ap, subst, arith, inl, inr}
 use Rattle.std.specs.Prelude.{◌&&◌, ◌==◌, IfErr, OnOk, nat_le, option_map, slice_get}
 use Rattle.std.proofs.Math.Nat.{le-max_left, le-max_right}
-use Rattle.std.proofs.lemmas.Bool.{eqb-true, leb-true, false≢true}
+use Rattle.std.proofs.lemmas.Bool.{cases_eq, eqb-true, leb-true, false≢true}
 use lib.ListN.{get_or-map as get_or-map_default}
 use Rattle.std.proofs.lemmas.List.{length-map, get_or-map}
 use Rattle.std.proofs.lemmas.List.Elements.{All-nil, All-cons, All-head, All-tail, All-get_or, All-from_get_or}
 use Rattle.std.proofs.lemmas.Option.{get_or_from_slice_get, slice_get-get_or, slice_get-map, slice_get_within}
 use Rattle.prime_field.specs.Residue.{IsPrime}
+use Rattle.elim_core.specs.Sparse.{entries_of}
+use Rattle.elim_core.specs.declared.SparseRow.{SparseRow}
 use Rattle.ratfun_text.specs.Value.{greatest, value}
 use Rattle.ratfun_text.specs.declared.expr.Expr.{Expr}
 use Rattle.basic_nodes.specs.Lengths.{are_equal, are_within}
@@ -16,17 +18,19 @@ use Rattle.basic_nodes.proofs.LengthRules.{ruled_some, are_equal_at, are_within_
 use Rattle.basic_nodes.proofs.Pieces.{length-chained}
 use Rattle.graph_file.specs.Line.{all_of}
 use Rattle.graph_file.specs.Needed.{sources_of}
-use Rattle.graph_file.specs.Sound.{IsKind}
+use Rattle.graph_file.specs.Sound.{IsEarlier, IsKind}
+use Rattle.graph_file.specs.declared.graph.Node.{Node}
 use Rattle.graph_file.specs.declared.graph.NodeKind.{NodeKind}
-use Rattle.graph_file.specs.declared.graph.NodeKind.TheVariants.{Eval, Take, Slice, Chain, Sum, Product, Matmul, Dense}
+use Rattle.graph_file.specs.declared.graph.NodeKind.TheVariants.{Eval, Take, Slice, Chain, Sum, Product, Matmul, Dense, Sparse}
 use Rattle.graph_file.specs.declared.graph.Source.{Source}
 use Rattle.graph_file.specs.declared.graph.Source.TheVariants as source
-use Rattle.graph_eval.specs.Evaluated.{IsAmong, no_graphs}
+use Rattle.graph_eval.specs.Evaluated.{no_graphs}
 use Rattle.graph_eval.specs.GraphValue.{KindFails, KindGives, named}
 use Rattle.graph_eval.specs.declared.outcome.Cause.{Cause}
 use Rattle.graph_eval.specs.declared.outcome.Cause.TheVariants.{Division}
 use Rattle.graph_eval.specs.Learned.{greatest_among, kind_length, named_length}
 use Rattle.graph_eval.specs.Reading.{HasLength, IsEntry}
+use Rattle.graph_eval.specs.Systems.{AreEnough, words_of}
 use Rattle.graph_eval.proofs.ShapeLaws.{sources_sound}
 
 -- no expression uses a position past the greatest
@@ -45,12 +49,12 @@ all_get : {X : Type 0} (P : X → Type 0) (xs : List X) (k : ℕ) (x : X) → sl
 all_get P xs k x at all = subst P (get_or_from_slice_get xs k x x at) (All-get_or P xs k x (slice_get_within xs k x at) all)
 
 -- the first list that a sound node names is there
-pub first_among : (variables number : ℕ) (kind : NodeKind) (from : Source) (rest : List Source) → sources_of kind ≡ from ∷ rest → IsKind variables number kind → IsAmong number from
-first_among variables number kind from rest names is = All-head (IsAmong number) from rest (subst (All (IsAmong number)) names (sources_sound variables number kind is))
+pub first_among : (variables number : ℕ) (kind : NodeKind) (from : Source) (rest : List Source) → sources_of kind ≡ from ∷ rest → IsKind variables number kind → IsEarlier number from
+first_among variables number kind from rest names is = All-head (IsEarlier number) from rest (subst (All (IsEarlier number)) names (sources_sound variables number kind is))
 
-pub second_among : (variables number : ℕ) (kind : NodeKind) (first second : Source) → sources_of kind ≡ first ∷ second ∷ [] → IsKind variables number kind → IsAmong number second
+pub second_among : (variables number : ℕ) (kind : NodeKind) (first second : Source) → sources_of kind ≡ first ∷ second ∷ [] → IsKind variables number kind → IsEarlier number second
 second_among variables number kind first second names is =
-    All-head (IsAmong number) second [] (All-tail (IsAmong number) first (second ∷ []) (subst (All (IsAmong number)) names (sources_sound variables number kind is)))
+    All-head (IsEarlier number) second [] (All-tail (IsEarlier number) first (second ∷ []) (subst (All (IsEarlier number)) names (sources_sound variables number kind is)))
 
 -- a node that evaluates expressions gives their values, and fails where one has none
 pub eval_gives : (m : ℕ) (set : List ℕ) (list : Source → List ℕ) (kind : NodeKind) (from : Source) (exprs shown : List Expr) (arguments values : List ℕ) (answer : Result (Unit {0}) Cause) → kind ≡ Eval from exprs → arguments ≡ list from → shown ≡ exprs
@@ -97,7 +101,7 @@ module _ (inputs : List ℕ) (lists : List (List ℕ)) (set : List ℕ) where
     take_entries variables is = All-from_get_or (IsEntry inputs lists) parts (source.Input, 0) (λ i below.
         let part = get_or parts i (source.Input, 0) in
         let at : slice_get parts i ≡ Some part = slice_get-get_or parts i (source.Input, 0) below in
-        let position = is.positions parts refl i part at in
+        let position = is.positions i part at in
         let within : get_or (map (λ p. p.1) parts) i 0 ≤ get_or (map room (map (λ p. p.0) parts)) i 0 =
         are_within_at (map (λ p. p.1) parts) (map room (map (λ p. p.0) parts)) (ruled_some (are_within (map (λ p. p.1) parts) (map room (map (λ p. p.0) parts))) (length (map (λ p. p.1) parts)) own has).0 i (omega (arith, length-map parts (λ p. p.1))) in
         let mine : get_or (map (λ p. p.1) parts) i 0 ≡ part.1 = get_or-map (λ (p : Source × ℕ). p.1) parts i (source.Input, 0) 0 below in
@@ -105,7 +109,7 @@ module _ (inputs : List ℕ) (lists : List (List ℕ)) (set : List ℕ) where
         let theirs : get_or (map room (map (λ p. p.0) parts)) i 0 ≡ room part.0 = get_or-map room (map (λ p. p.0) parts) i source.Input 0 (omega (arith, length-map parts (λ p. p.0))) ∙ ap room source_at in
         let among_at : slice_get (map (λ p. p.0) parts) i ≡ Some part.0 = slice_get-map (λ (p : Source × ℕ). p.0) parts i ∙ ap (λ o. option_map (λ (p : Source × ℕ). p.0) o) at in
         record {
-          there = all_get (IsAmong (length lists)) (map (λ p. p.0) parts) i part.0 among_at (sources_sound variables (length lists) (Take parts) is);
+          there = all_get (IsEarlier (length lists)) (map (λ p. p.0) parts) i part.0 among_at (sources_sound variables (length lists) (Take parts) is);
           first = position.first;
           last = omega (arith, within, mine, theirs, room_is part.0);
         })
@@ -157,3 +161,29 @@ module _ (inputs : List ℕ) (lists : List (List ℕ)) (set : List ℕ) where
 
     pub dense_entries : length (named inputs lists from) ≡ rows * (unknowns + 1)
     dense_entries = sym (room_is from) ∙ eqb-true (room from) (rows * (unknowns + 1)) (ruled_some (room from == rows * (unknowns + 1)) (length want * (length set + 1)) own has).0
+
+  module _ (from : Source) (unknowns : ℕ) (want : List ℕ) (rows : List SparseRow) (own : ℕ) (has : kind_length (length inputs) (map (λ xs. length xs) lists) set (Sparse from unknowns want rows) ≡ Some own) where
+    pub sparse_room : own ≡ length want * (length set + 1)
+    sparse_room = sym (ruled_some (room from == entries_of rows) (length want * (length set + 1)) own has).1
+
+    pub sparse_entries : length (named inputs lists from) ≡ entries_of rows
+    sparse_entries = sym (room_is from) ∙ eqb-true (room from) (entries_of rows) (ruled_some (room from == entries_of rows) (length want * (length set + 1)) own has).0
+
+-- so many words are enough for the systems of the first so many nodes
+pub record EnoughSoFar (nodes : List Node) (count words : ℕ) : Type 0 where
+  pub each : (n : ℕ) (node : Node) → n < count → slice_get nodes n ≡ Some node → IsTrue node.needed → words_of node.kind ≤ words
+
+pub EnoughSoFar-more : (nodes : List Node) (count words own more : ℕ) (node : Node) → EnoughSoFar nodes count words → slice_get nodes count ≡ Some node → (IsTrue node.needed → words_of node.kind ≤ own) → words ≤ more → own ≤ more → EnoughSoFar nodes (count + 1) more
+EnoughSoFar-more nodes count words own more node so_far is here further mine = record {
+  each = λ n other below at needed. elim (cases_eq n count) [
+    | inl e ↦
+        let both : Some node ≡ Some other = sym is ∙ ap (slice_get nodes) (sym e) ∙ at in
+        let same : node ≡ other = cc in
+        let least : words_of other.kind ≤ own = subst (λ (o : Node). IsTrue o.needed → words_of o.kind ≤ own) same here needed in
+        omega (arith, least)
+    | inr ne ↦ omega (arith, so_far.each n other (omega arith) at needed)
+  ];
+}
+
+pub enough_all : (nodes : List Node) (count words : ℕ) → EnoughSoFar nodes count words → length nodes ≤ count → AreEnough nodes words
+enough_all nodes count words so_far all = record { each = λ n node is needed. so_far.each n node (omega (arith, slice_get_within nodes n node is)) is needed }

@@ -1,5 +1,5 @@
 -- What a sound node says of its length's rule.
-use Rattle.std.proofs.Common.{◌≡◌, ◌≢◌, ℕ, zero, suc, ◌<◌, ◌≤◌, Bool, true, false, MatchBool, List, [], ◌∷◌, All, length, map, get_or, Some, refl, sym, ◌∙◌, arith, inl, inr}
+use Rattle.std.proofs.Common.{◌≡◌, ℕ, zero, suc, ◌<◌, ◌≤◌, Bool, true, false, MatchBool, List, [], ◌∷◌, All, length, map, get_or, Some, refl, sym, ◌∙◌, arith, inl, inr}
 use Rattle.std.specs.Prelude.{slice_get}
 use Rattle.std.proofs.lemmas.Bool.{cases_lt}
 use Rattle.std.proofs.lemmas.List.{length-map, get_or_past}
@@ -7,14 +7,15 @@ use Rattle.std.proofs.lemmas.List.Elements.{All-nil, All-cons, All-map, All-get_
 use Rattle.basic_nodes.specs.Lengths.{IsShape, HasLists, IsPosition}
 use Rattle.elim_core.specs.Solver.{AreUnknowns, IsAscending}
 use Rattle.graph_file.specs.Needed.{sources_of}
-use Rattle.graph_file.specs.Sound.{IsKind}
+use Rattle.graph_file.specs.Sound.{IsEarlier, IsKind}
+use Rattle.graph_file.proofs.KindFacts.{sources_earlier}
 use Rattle.graph_file.specs.declared.graph.Node.{Node}
 use Rattle.graph_file.specs.declared.graph.NodeKind.{NodeKind}
-use Rattle.graph_file.specs.declared.graph.NodeKind.TheVariants.{Eval, Take, Slice, Chain, Sum, Product, Matmul, Dense}
+use Rattle.graph_file.specs.declared.graph.NodeKind.TheVariants.{Eval, Take, Slice, Chain, Sum, Product, Matmul, Dense, Sparse}
 use Rattle.graph_file.specs.declared.graph.Source.{Source}
 use Rattle.graph_file.specs.declared.graph.Source.TheVariants as source
-use Rattle.graph_eval.specs.Evaluated.{IsAmong}
 use Rattle.graph_eval.specs.Learned.{IsKindSet, IsSetFor, shape_of, named_length}
+use Rattle.graph_eval.specs.Systems.{HasFewEntries, HasFewUnknowns}
 
 -- what holds of what stands at each place holds of all
 pub All-from_get : {X : Type 0} (P : X → Type 0) (xs : List X) → ((k : ℕ) (x : X) → slice_get xs k ≡ Some x → P x) → All P xs
@@ -44,6 +45,7 @@ empty_kind_set (Sum parts) = refl
 empty_kind_set (Product parts) = refl
 empty_kind_set (Matmul left right rows mid cols) = refl
 empty_kind_set (Dense from rows unknowns want) = (λ i j order low. absurd (omega arith), λ i low. absurd (omega arith))
+empty_kind_set (Sparse from unknowns want rows) = (λ i j order low. absurd (omega arith), λ i low. absurd (omega arith))
 
 set_when : (needed : Bool) (kind : NodeKind) → MatchBool needed (IsKindSet kind []) (◌≡◌ {A = List ℕ} [] [])
 set_when true kind = empty_kind_set kind
@@ -56,22 +58,20 @@ empty_set_for node = set_when node.needed node.kind
 pub shape_sound : (variables number : ℕ) (set : List ℕ) (kind : NodeKind) → IsKind variables number kind → IsKindSet kind set → IsShape (shape_of set kind)
 shape_sound variables number set (Eval from exprs) is learned = tt
 shape_sound variables number set (Take parts) is learned =
-    All-map IsPosition (λ part. part.1) parts (All-from_get (λ part. IsPosition part.1) parts (λ k part at. let position = is.positions parts refl k part at in (position.first, position.last)))
-shape_sound variables number set (Slice from first last) is learned = is.range from first last refl
+    All-map IsPosition (λ part. part.1) parts (All-from_get (λ part. IsPosition part.1) parts (λ k part at. let position = is.positions k part at in (position.first, position.last)))
+shape_sound variables number set (Slice from first last) is learned = (is.low, is.order, is.high)
 shape_sound variables number set (Chain parts) is learned = tt
 shape_sound variables number set (Sum parts) is learned = tt
 shape_sound variables number set (Product parts) is learned = tt
 shape_sound variables number set (Matmul left right rows mid cols) is learned =
-    let sides = is.sides left right rows mid cols refl in
+    let sides = is.sides in
     record { rows_low = sides.height.first; mid_low = sides.depth.first; cols_low = sides.width.first; left = sides.left; right = sides.right; result = sides.whole }
 shape_sound variables number set (Dense from rows unknowns want) is learned =
-    let dense = is.dense from rows unknowns want refl in
     let small = set_small unknowns set learned.0 learned.1 in
-    omega (arith, dense.unknowns_high, small)
-
-some_part : {X : Type 0} (xs : List X) → xs ≢ [] → 1 ≤ length xs
-some_part [] some = absurd (some refl)
-some_part (x ∷ xs) some = omega arith
+    omega (arith, is.unknowns_high, small)
+shape_sound variables number set (Sparse from unknowns want rows) is learned =
+    let small = set_small unknowns set learned.0 learned.1 in
+    omega (arith, is.unknowns_high, small)
 
 -- a sound node names as many lists as its kind wants
 pub lists_sound : (variables number : ℕ) (set : List ℕ) (kind : NodeKind) → IsKind variables number kind → HasLists (shape_of set kind) (length (sources_of kind))
@@ -79,18 +79,15 @@ lists_sound variables number set (Eval from exprs) is = refl
 lists_sound variables number set (Take parts) is = length-map parts (λ part. part.0) ∙ sym (length-map parts (λ part. part.1))
 lists_sound variables number set (Slice from first last) is = refl
 lists_sound variables number set (Chain parts) is = tt
-lists_sound variables number set (Sum parts) is = some_part parts is.some
-lists_sound variables number set (Product parts) is = some_part parts is.some
+lists_sound variables number set (Sum parts) is = is.some
+lists_sound variables number set (Product parts) is = is.some
 lists_sound variables number set (Matmul left right rows mid cols) is = refl
 lists_sound variables number set (Dense from rows unknowns want) is = refl
-
-among : (variables number : ℕ) (kind : NodeKind) → IsKind variables number kind → (i : ℕ) (from : Source) → slice_get (sources_of kind) i ≡ Some from → IsAmong number from
-among variables number kind is i source.Input at = tt
-among variables number kind is i (source.Node k) at = is.earlier k (i, at)
+lists_sound variables number set (Sparse from unknowns want rows) is = refl
 
 -- the lists that a sound node names are there
-pub sources_sound : (variables number : ℕ) (kind : NodeKind) → IsKind variables number kind → All (IsAmong number) (sources_of kind)
-sources_sound variables number kind is = All-from_get (IsAmong number) (sources_of kind) (among variables number kind is)
+pub sources_sound : (variables number : ℕ) (kind : NodeKind) → IsKind variables number kind → All (IsEarlier number) (sources_of kind)
+sources_sound variables number kind is = All-from_get (IsEarlier number) (sources_of kind) (sources_earlier variables number kind is)
 
 -- a list that a source names is within the limit where the inputs and the lists so far are
 pub named_within : (inputs : ℕ) (lengths : List ℕ) (from : Source) → inputs ≤ 8 → All (λ n. n ≤ 262144) lengths → named_length inputs lengths from ≤ 262144
@@ -105,3 +102,27 @@ pub all_within : (inputs : ℕ) (lengths : List ℕ) (sources : List Source) →
 all_within inputs lengths sources few within =
     All-map (λ n. n ≤ 262144) (named_length inputs lengths) sources
     (All-from_get_or (λ from. named_length inputs lengths from ≤ 262144) sources source.Input (λ i below. named_within inputs lengths (get_or sources i source.Input) few within))
+
+-- a sound system has few unknowns
+pub few_unknowns : (variables number : ℕ) (kind : NodeKind) → IsKind variables number kind → HasFewUnknowns kind
+few_unknowns variables number (Eval from exprs) is = tt
+few_unknowns variables number (Take parts) is = tt
+few_unknowns variables number (Slice from first last) is = tt
+few_unknowns variables number (Chain parts) is = tt
+few_unknowns variables number (Sum parts) is = tt
+few_unknowns variables number (Product parts) is = tt
+few_unknowns variables number (Matmul left right rows mid cols) is = tt
+few_unknowns variables number (Dense from rows unknowns want) is = omega (arith, is.unknowns_high)
+few_unknowns variables number (Sparse from unknowns want rows) is = is.unknowns_high
+
+-- and few values in sparse rows
+pub few_entries : (variables number : ℕ) (kind : NodeKind) → IsKind variables number kind → HasFewEntries kind
+few_entries variables number (Eval from exprs) is = tt
+few_entries variables number (Take parts) is = tt
+few_entries variables number (Slice from first last) is = tt
+few_entries variables number (Chain parts) is = tt
+few_entries variables number (Sum parts) is = tt
+few_entries variables number (Product parts) is = tt
+few_entries variables number (Matmul left right rows mid cols) is = tt
+few_entries variables number (Dense from rows unknowns want) is = tt
+few_entries variables number (Sparse from unknowns want rows) is = is.filled.bounded

@@ -1,9 +1,8 @@
 -- What evaluating a node or a graph answers.
-use Rattle.std.specs.Prelude.{◌≡◌, ℕ, ◌<◌, All, IsTrue, List, Option, Some, None, Result, Ok, Err, ⊤, length, slice_get}
+use Rattle.std.specs.Prelude.{◌≡◌, ℕ, ◌<◌, All, IsTrue, List, Option, Some, None, Result, Ok, Err, length, slice_get}
 use Rattle.graph_file.specs.declared.graph.Graph.{Graph}
 use Rattle.graph_file.specs.declared.graph.Node.{Node}
 use Rattle.graph_file.specs.declared.graph.Source.{Source}
-use Rattle.graph_file.specs.declared.graph.Source.TheVariants as source
 use Rattle.graph_eval.specs.declared.outcome.Cause.{Cause}
 use Rattle.graph_eval.specs.declared.outcome.Outcome as code
 use Rattle.graph_eval.specs.declared.outcome.Outcome.TheVariants as answer
@@ -22,11 +21,6 @@ no_graphs number = λ inputs outcome. ⊥
 abbrev pub NodeAnswers : ℕ → (ℕ → Meaning) → List ℕ → (Source → List ℕ) → Node → Result (List ℕ) Cause → Type 0
 NodeAnswers m called learned list node (Ok values) = NodeGives m called learned list node values
 NodeAnswers m called learned list node (Err cause) = NodeFails m called learned list node cause
-
--- the source is the input, or one of so many nodes
-abbrev pub IsAmong : ℕ → Source → Type 0
-IsAmong count source.Input = ⊤
-IsAmong count (source.Node number) = number < count
 
 -- the point has an entry for each variable of the graph
 abbrev pub HasInputs : Option Graph → List ℕ → Type 0

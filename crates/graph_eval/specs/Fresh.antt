@@ -1,18 +1,23 @@
 -- What learning a graph answers: by its length rules alone, or at a point.
-use Rattle.std.specs.Prelude.{◌≡◌, ℕ, ◌+◌, ◌*◌, ◌<◌, ◌==◌, MatchBool, List, [], length, take, slice_get, slice_index_or, Some, None}
+use Rattle.std.specs.Prelude.{◌≡◌, ℕ, ◌+◌, ◌*◌, ◌<◌, ◌==◌, IsTrue, MatchBool, List, [], length, map, take, slice_get, slice_index_or, Some, None, true, false}
+use Rattle.elim_core.specs.Solved.{IsOwnSet}
+use Rattle.elim_core.specs.Sparse.{entries_of, rows_with}
+use Rattle.prime_field.specs.Residue.{IsPrime}
 use Rattle.graph_file.specs.declared.graph.Graph.{Graph}
 use Rattle.graph_file.specs.declared.graph.Node.{Node}
 use Rattle.graph_file.specs.declared.graph.NodeKind.{NodeKind}
-use Rattle.graph_file.specs.declared.graph.NodeKind.TheVariants.{Dense}
+use Rattle.graph_file.specs.declared.graph.NodeKind.TheVariants.{Dense, Sparse}
 use Rattle.graph_file.specs.declared.graph.Source.{Source}
 use Rattle.graph_eval.specs.declared.fresh.Fresh.{Fresh}
 use Rattle.graph_eval.specs.declared.fresh.Fresh.TheVariants as fresh
+use Rattle.graph_eval.specs.declared.own.NodeLearned.{NodeLearned}
 use Rattle.graph_eval.specs.declared.learned.GraphLearned.{GraphLearned}
 use Rattle.graph_eval.specs.declared.outcome.Cause.{Cause}
-use Rattle.graph_eval.specs.Evaluated.{IsNeededNode}
+use Rattle.graph_eval.specs.declared.outcome.Cause.TheVariants.{System}
+use Rattle.graph_eval.specs.Evaluated.{IsNeededNode, no_graphs}
 use Rattle.graph_eval.specs.GraphValue.{FirstLists, Meaning, NodeFails, meanings, named}
-use Rattle.graph_eval.specs.Learned.{FailsLength, FirstLengths, FitsGraph, named_length, node_length}
-use Rattle.graph_eval.specs.Systems.{IsOwnSet, rows_in}
+use Rattle.graph_eval.specs.Learned.{ArePlans, FailsLength, FirstLengths, FitsGraph, named_length, node_length, plan_of}
+use Rattle.graph_eval.specs.Systems.{rows_in}
 
 -- By its length rules alone, for a graph none of whose needed nodes is a solver: what was learned fits the graph, with no
 -- point, or the rule of a node's length fails.
@@ -25,19 +30,27 @@ IsMeasured graph (fresh.Length node) = FailsLength graph node
 abbrev pub IsMeasuredAt : List Graph → ℕ → Fresh → Type 0
 IsMeasuredAt graphs number answer = (graph : Graph) × (slice_get graphs number ≡ Some graph) × IsMeasured graph answer
 
--- the set of a node that solves a system: the independent unknowns of its own system, or nothing where the list that it
--- names hasn't the system's entries
-abbrev pub IsOwnOf : ℕ → ℕ → ℕ → List ℕ → List ℕ → Type 0
-IsOwnOf m rows unknowns list set = MatchBool (length list == rows * (unknowns + 1)) (IsOwnSet m unknowns (rows_in rows unknowns list) set) (set ≡ [])
+-- the set of a node that solves a system with so many entries: the independent unknowns of its own system, or nothing
+-- where the list that it names hasn't as many
+abbrev pub IsOwnOf : ℕ → ℕ → ℕ → List (List ℕ) → List ℕ → List ℕ → Type 0
+IsOwnOf m unknowns entries rows list set = MatchBool (length list == entries) (IsOwnSet m unknowns rows set) (set ≡ [])
 
 -- the set of a node of this kind on the lists that it names; nothing is learned for a node that is no solver
 abbrev pub KindLearns : ℕ → (Source → List ℕ) → NodeKind → List ℕ → Type 0
-KindLearns m list (Dense from rows unknowns want) set = IsOwnOf m rows unknowns (list from) set
+KindLearns m list (Dense from rows unknowns want) set = IsOwnOf m unknowns (rows * (unknowns + 1)) (rows_in rows unknowns (list from)) (list from) set
+KindLearns m list (Sparse from unknowns want rows) set = IsOwnOf m unknowns (entries_of rows) (rows_with unknowns rows (list from)) (list from) set
 KindLearns m list kind set = set ≡ []
 
 -- the same, where nothing is learned for a node that isn't needed
 abbrev pub NodeLearns : ℕ → (Source → List ℕ) → Node → List ℕ → Type 0
 NodeLearns m list node set = MatchBool node.needed (KindLearns m list node.kind set) (set ≡ [])
+
+-- What a node learned on the lists that earlier nodes gave: its plan over its set, or no plan, and then it fails once it has
+-- a length.
+pub record HasPlanOrFails (m : ℕ) (inputs : List ℕ) (lists : List (List ℕ)) (node : Node) (own : NodeLearned) : Type 0 where
+  pub planned : own.planned ≡ true → own.plan ≡ plan_of own.set node
+  pub needed : own.planned ≡ false → IsTrue node.needed
+  pub fails : own.planned ≡ false → (count : ℕ) → node_length (length inputs) (map length lists) own.set node ≡ Some count → IsPrime m → NodeFails m no_graphs own.set (named inputs lists) node System
 
 -- a graph's first nodes at a point: each with its own set, its length by its rule with this set, and its list over it
 pub record FirstLearned (m : ℕ) (called : ℕ → Meaning) (graph : Graph) (inputs : List ℕ) (sets : List (List ℕ)) (lengths : List ℕ) (lists : List (List ℕ)) : Type 0 where
@@ -47,11 +60,12 @@ pub record FirstLearned (m : ℕ) (called : ℕ → Meaning) (graph : Graph) (in
   pub measured : FirstLengths graph sets lengths
   pub given : FirstLists m called sets graph.nodes inputs lists
 
--- no node fails, and their sets and lengths were learned, and the output's length
+-- no node fails, and their sets, plans and lengths were learned, and the output's length
 pub record IsLearned (m : ℕ) (called : ℕ → Meaning) (graph : Graph) (inputs : List ℕ) (learned : GraphLearned) : Type 0 where
   pub lists : List (List ℕ)
   pub first : FirstLearned m called graph inputs learned.sets learned.lengths lists
   pub all : length lists ≡ length graph.nodes
+  pub plans : ArePlans graph.nodes learned.sets learned.plans
   pub output : learned.output ≡ named_length (length graph.inputs) learned.lengths graph.output
   pub point : learned.point ≡ None
 

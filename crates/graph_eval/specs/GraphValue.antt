@@ -1,18 +1,20 @@
 -- The value of a graph at a point, modulo m.
-use Rattle.std.specs.Prelude.{◌≡◌, ℕ, zero, suc, ◌-◌, ◌<◌, ◌≤◌, ◌==◌, Bool, true, false, IsTrue, MatchBool, List, [], ◌∷◌, length, map, take, slice_get, slice_index_or, Option, Some, None}
+use Rattle.std.specs.Prelude.{◌≡◌, ℕ, zero, suc, ◌-◌, ◌<◌, ◌≤◌, ◌==◌, Bool, true, false, IsTrue, MatchBool, List, [], length, map, take, slice_get, slice_index_or, Option, Some, None}
+use Rattle.elim_core.specs.Solved.{IsSolved}
 use Rattle.elim_core.specs.Solver.{HasSolverValue}
+use Rattle.elim_core.specs.Sparse.{rows_with}
 use Rattle.ratfun_text.specs.Value.{value}
 use Rattle.basic_nodes.specs.Plain.{taken, sliced, chained, summed, multiplied, matrix_product}
 use Rattle.graph_file.specs.Line.{all_of}
 use Rattle.graph_file.specs.declared.graph.Graph.{Graph}
 use Rattle.graph_file.specs.declared.graph.Node.{Node}
 use Rattle.graph_file.specs.declared.graph.NodeKind.{NodeKind}
-use Rattle.graph_file.specs.declared.graph.NodeKind.TheVariants.{Eval, Take, Slice, Chain, Sum, Product, Matmul, Dense}
+use Rattle.graph_file.specs.declared.graph.NodeKind.TheVariants.{Eval, Take, Slice, Chain, Sum, Product, Matmul, Dense, Sparse}
 use Rattle.graph_file.specs.declared.graph.Source.{Source}
 use Rattle.graph_file.specs.declared.graph.Source.TheVariants as source
 use Rattle.graph_eval.specs.declared.outcome.Cause.{Cause}
 use Rattle.graph_eval.specs.declared.outcome.Cause.TheVariants.{Division, System}
-use Rattle.graph_eval.specs.Systems.{IsSolved, rows_in}
+use Rattle.graph_eval.specs.Systems.{rows_in}
 
 -- what a graph gives at a point: the list of its output, or the first needed node without a value and the cause
 pub data Outcome : Type 0 where
@@ -39,6 +41,7 @@ KindGives m called learned list (Sum parts) values = values ≡ summed m (map li
 KindGives m called learned list (Product parts) values = values ≡ multiplied m (map list parts)
 KindGives m called learned list (Matmul left right rows mid cols) values = values ≡ matrix_product m rows mid cols (list left) (list right)
 KindGives m called learned list (Dense from rows unknowns want) values = IsSolved m unknowns (rows_in rows unknowns (list from)) learned want values
+KindGives m called learned list (Sparse from unknowns want rows) values = IsSolved m unknowns (rows_with unknowns rows (list from)) learned want values
 
 -- A node of this kind has no value, for this cause.
 abbrev pub KindFails : ℕ → (ℕ → Meaning) → List ℕ → (Source → List ℕ) → NodeKind → Cause → Type 0
@@ -50,6 +53,7 @@ KindFails m called learned list (Sum parts) cause = ⊥
 KindFails m called learned list (Product parts) cause = ⊥
 KindFails m called learned list (Matmul left right rows mid cols) cause = ⊥
 KindFails m called learned list (Dense from rows unknowns want) cause = (HasSolverValue m unknowns (rows_in rows unknowns (list from)) learned → ⊥) × (cause ≡ System)
+KindFails m called learned list (Sparse from unknowns want rows) cause = (HasSolverValue m unknowns (rows_with unknowns rows (list from)) learned → ⊥) × (cause ≡ System)
 
 -- a node that is needed gives its value, and one that isn't is left out and gives nothing
 abbrev pub NodeGives : ℕ → (ℕ → Meaning) → List ℕ → (Source → List ℕ) → Node → List ℕ → Type 0

@@ -1,6 +1,10 @@
--- What is learned of a graph: the sets of its solvers' unknowns and the lengths of its nodes' lists.
+-- What is learned of a graph: the sets of its solvers' unknowns, the plans of its sparse systems and the lengths of its
+-- nodes' lists.
 use Rattle.std.specs.Prelude.{◌≡◌, ℕ, ◌+◌, ◌-◌, ◌*◌, ◌<◌, ◌≤◌, nat_le, max, if◌then◌else◌, Bool, true, false, ◌&&◌, MatchBool, List, [], ◌∷◌, length, map, take, sum, slice_get, slice_index, slice_index_or, Option, Some, None, option_and_then}
 use Rattle.elim_core.specs.Solver.{AreUnknowns, IsAscending}
+use Rattle.elim_core.specs.Sparse.{entries_of}
+use Rattle.elim_core.specs.declared.SparseRow.{SparseRow}
+use Rattle.sparse_solver.specs.Plan.{Plan}
 use Rattle.ratfun_text.specs.declared.expr.Expr.{Expr}
 use Rattle.std.specs.List.{list_any}
 use Rattle.ratfun_text.specs.Value.{greatest}
@@ -11,15 +15,16 @@ use Rattle.graph_file.specs.Needed.{sources_of}
 use Rattle.graph_file.specs.declared.graph.Graph.{Graph}
 use Rattle.graph_file.specs.declared.graph.Node.{Node}
 use Rattle.graph_file.specs.declared.graph.NodeKind.{NodeKind}
-use Rattle.graph_file.specs.declared.graph.NodeKind.TheVariants.{Eval, Take, Slice, Chain, Sum, Product, Matmul, Dense}
+use Rattle.graph_file.specs.declared.graph.NodeKind.TheVariants.{Eval, Take, Slice, Chain, Sum, Product, Matmul, Dense, Sparse}
 use Rattle.graph_file.specs.declared.graph.Source.{Source}
 use Rattle.graph_file.specs.declared.graph.Source.TheVariants as source
 use Rattle.graph_eval.specs.declared.learned.GraphLearned.{GraphLearned}
 
 -- whether a node of this kind solves a system of equations
-abbrev pub is_dense : NodeKind → Bool
-is_dense (Dense from rows unknowns want) = true
-is_dense kind = false
+abbrev pub is_system : NodeKind → Bool
+is_system (Dense from rows unknowns want) = true
+is_system (Sparse from unknowns want rows) = true
+is_system kind = false
 
 -- the greatest position that an expression among these uses, 0 where none uses any
 abbrev pub greatest_among : List Expr → ℕ
@@ -36,6 +41,7 @@ shape_of set (Sum parts) = shape.Sum
 shape_of set (Product parts) = shape.Product
 shape_of set (Matmul left right rows mid cols) = shape.Matmul rows mid cols
 shape_of set (Dense from rows unknowns want) = shape.Solver (rows * (unknowns + 1)) (length want) (length set)
+shape_of set (Sparse from unknowns want rows) = shape.Solver (entries_of rows) (length want) (length set)
 
 -- the length of the list that a source names, where there are so many inputs and the nodes have these lengths
 abbrev pub named_length : ℕ → List ℕ → Source → ℕ
@@ -63,28 +69,53 @@ pub record FirstLengths (graph : Graph) (sets : List (List ℕ)) (lengths : List
 -- what may be learned for a node of this kind: unknowns of a solver, ascending, and nothing for another node
 abbrev pub IsKindSet : NodeKind → List ℕ → Type 0
 IsKindSet (Dense from rows unknowns want) set = IsAscending set × AreUnknowns unknowns set
+IsKindSet (Sparse from unknowns want rows) set = IsAscending set × AreUnknowns unknowns set
 IsKindSet kind set = set ≡ []
 
 -- the same, where nothing is learned for a node that isn't needed
 abbrev pub IsSetFor : Node → List ℕ → Type 0
 IsSetFor node set = MatchBool node.needed (IsKindSet node.kind set) (set ≡ [])
 
+-- the plan of a system of sparse rows that is learned with this set
+abbrev pub plan_over : ℕ → List SparseRow → List ℕ → Plan
+plan_over unknowns rows set = record { unknowns = unknowns; rows = rows; learned = Some set }
+
+-- the plan of a node of this kind over its set: a sparse system has one, with its own unknowns and rows, and no other node
+abbrev pub kind_plan : List ℕ → NodeKind → Option Plan
+kind_plan set (Sparse from unknowns want rows) = Some (plan_over unknowns rows set)
+kind_plan set kind = None
+
+-- the same, where a node that isn't needed has none
+abbrev pub plan_of : List ℕ → Node → Option Plan
+plan_of set node = if node.needed then kind_plan set node.kind else None
+
+-- each of the nodes has its plan over its set
+pub record ArePlans (nodes : List Node) (sets : List (List ℕ)) (plans : List (Option Plan)) : Type 0 where
+  pub many : length plans ≡ length nodes
+  pub each : (n : ℕ) (node : Node) → slice_get nodes n ≡ Some node → slice_index_or plans n None ≡ plan_of (slice_index_or sets n []) node
+
+-- so many places without a plan
+pub record AreNone (count : ℕ) (plans : List (Option Plan)) : Type 0 where
+  pub many : length plans ≡ count
+  pub each : (n : ℕ) → slice_index_or plans n None ≡ None
+
 -- as many empty sets
 pub record AreEmpty (count : ℕ) (sets : List (List ℕ)) : Type 0 where
   pub many : length sets ≡ count
   pub each : (n : ℕ) → slice_index_or sets n [] ≡ []
 
--- what was learned of a graph has a set for every node, the length of every node's list, and that of the output
+-- what was learned of a graph has a set and a plan for every node, the length of every node's list, and that of the output
 pub record FitsGraph (graph : Graph) (learned : GraphLearned) : Type 0 where
   pub many : length learned.sets ≡ length graph.nodes
   pub sets : (n : ℕ) (node : Node) → slice_get graph.nodes n ≡ Some node → IsSetFor node (slice_index_or learned.sets n [])
+  pub plans : ArePlans graph.nodes learned.sets learned.plans
   pub first : FirstLengths graph learned.sets learned.lengths
   pub all : length learned.lengths ≡ length graph.nodes
   pub output : learned.output ≡ named_length (length graph.inputs) learned.lengths graph.output
 
 -- whether the node is a solver whose value is needed
 abbrev pub is_solver : Node → Bool
-is_solver node = node.needed && is_dense node.kind
+is_solver node = node.needed && is_system node.kind
 
 -- whether some needed node of the graph is a solver
 abbrev pub has_solver : Graph → Bool

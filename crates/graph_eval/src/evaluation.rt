@@ -1,27 +1,29 @@
 //! The lists of a graph's nodes at a point.
 
 ghost use Rattle.std.specs.Prelude.{◌≡◌, ◌<◌, ◌≤◌, All, Some, IfErr, IfOk, OnErr, OnOk, IsTrue, length, map};
+ghost use Rattle.std.specs.Option.{option_copied};
 ghost use Rattle.prime_field.specs.Modulus.{value_of};
 ghost use Rattle.prime_field.specs.Residue.{IsPrime};
 ghost use Rattle.graph_file.specs.Sound.{IsGraph, IsKind};
 ghost use Rattle.graph_eval.specs.Evaluated.{FitsOutcome, NodeAnswers, no_graphs, outcome_of};
 ghost use Rattle.graph_eval.specs.GraphValue.{GraphMeans, KindFails, KindGives, named};
-ghost use Rattle.graph_eval.specs.Learned.{FitsGraph, IsKindSet, IsSetFor, kind_length, node_length};
-ghost use Rattle.graph_eval.specs.Systems.{words_of};
+ghost use Rattle.graph_eval.specs.Learned.{FitsGraph, IsKindSet, IsSetFor, kind_length, kind_plan, node_length, plan_of};
+ghost use Rattle.graph_eval.specs.Systems.{AreEnough, words_of};
 
 use crate::kinds::{named, write_chained, write_product, write_sum, write_taken, write_values};
 use crate::learned::GraphLearned;
 use crate::outcome::{Cause, Outcome, Singular};
-use crate::systems::{make_room, write_solved};
+use crate::systems::write_solved;
 use basic_nodes::{matmul, slice};
 use graph_file::{Graph, Node, NodeKind};
 use prime_field::Modulus;
 use ratfun_text::NoMemory;
+use sparse_solver::SparsePlan;
 use sqlite_items::Items;
 use std::alloc::Global;
 
-/// Writes the list of a node of this kind, for which this set was learned, to `out`, which has its length. A system is
-/// solved in `words`.
+/// Writes the list of a node of this kind, for which this set and this plan were learned, to `out`, which has its length. A
+/// system is solved in `words`.
 ///
 /// # Errors
 ///
@@ -30,6 +32,7 @@ fn write_list(
     m: Modulus,
     kind: &NodeKind,
     set: &[u32],
+    plan: Option<&SparsePlan>,
     inputs: &[u64],
     lists: &[Items<u64>],
     words: &mut [u64],
@@ -37,6 +40,7 @@ fn write_list(
 ) -> Result<(), Cause>
     requires sound { IsKind (length inputs.now) (length lists.now) kind.now }
     requires set { IsKindSet kind.now set.now }
+    requires plan { option_copied plan ≡ kind_plan set.now kind.now }
     requires words { words_of kind.now ≤ length words.old }
     requires residues { All (λ x. x < value_of m) inputs.now }
     requires earlier { All (All (λ x. x < value_of m)) lists.now }
@@ -84,24 +88,34 @@ fn write_list(
                 return Err(Cause::System);
             }
         }
+        NodeKind::Sparse { from, want, .. } => {
+            let list = named(inputs, lists, *from);
+            let Some(plan) = plan else { unreachable!() };
+            if !plan.solve(m, list, want.as_slice(), words, out) {
+                return Err(Cause::System);
+            }
+        }
     }
     Ok(())
 }
 
-/// The list of a node for which this set was learned, which is empty where the node isn't needed, or the cause where it is
-/// needed and has no value. A system is solved in `words`, which grow where there are too few.
+/// The list of a node for which this set and this plan were learned, which is empty where the node isn't needed, or the
+/// cause where it is needed and has no value. A system is solved in `words`.
 pub(crate) fn node_list(
     alloc: Global,
     m: Modulus,
     node: &Node,
     set: &[u32],
+    plan: Option<&SparsePlan>,
     own: usize,
     inputs: &[u64],
     lists: &[Items<u64>],
-    words: &mut Vec<u64>,
+    words: &mut [u64],
 ) -> Result<Result<Items<u64>, Cause>, NoMemory>
     requires sound { IsKind (length inputs.now) (length lists.now) node.now.kind }
     requires set { IsSetFor node.now set.now }
+    requires plan { option_copied plan ≡ plan_of set.now node.now }
+    requires words { IsTrue node.now.needed → words_of node.now.kind ≤ length words.old }
     requires residues { All (λ x. x < value_of m) inputs.now }
     requires earlier { All (All (λ x. x < value_of m)) lists.now }
     requires room { node_length (length inputs.now) (map length lists.now) set.now node.now ≡ Some own }
@@ -113,15 +127,15 @@ pub(crate) fn node_list(
     if !node.needed {
         return Ok(Ok(Items::new(alloc)));
     }
-    make_room(&node.kind, words)?;
     let mut list = vec![in alloc; 0; own]?;
     match write_list(
         m,
         &node.kind,
         set,
+        plan,
         inputs,
         lists,
-        words.as_mut_slice(),
+        words,
         list.as_mut_slice(),
     ) {
         Ok(()) => Ok(Ok(Items::from_vec(list))),
@@ -129,7 +143,7 @@ pub(crate) fn node_list(
     }
 }
 
-/// Writes what a graph that calls no other gives at these inputs, whose nodes' sets and lists' lengths were learned. The
+/// Writes what a graph that calls no other gives at these inputs, whose nodes' sets, plans and lengths were learned. The
 /// lists are kept in `lists`, and systems are solved in `words`.
 pub(crate) fn evaluate(
     alloc: Global,
@@ -138,11 +152,12 @@ pub(crate) fn evaluate(
     learned: &GraphLearned,
     inputs: &[u64],
     lists: &mut Vec<Items<u64>>,
-    words: &mut Vec<u64>,
+    words: &mut [u64],
     out: &mut [u64],
 ) -> Result<Outcome, NoMemory>
     requires sound { IsGraph graph.now }
     requires fits { FitsGraph graph.now learned.now }
+    requires words { AreEnough graph.now.nodes (length words.old) }
     requires residues { All (λ x. x < value_of m) inputs.now }
     requires entries { length inputs.now ≡ length graph.now.inputs }
     requires room { length out.old ≡ learned.now.output }
@@ -153,10 +168,22 @@ pub(crate) fn evaluate(
     lists.clear();
     let lengths = learned.lengths.as_slice();
     let sets = learned.sets.as_slice();
+    let plans = learned.plans.as_slice();
     for (place, node) in graph.nodes.as_slice().iter().enumerate() {
         let own = lengths[place] as usize;
         let set = sets[place].as_slice();
-        match node_list(alloc, m, node, set, own, inputs, lists.as_slice(), words)? {
+        let plan = plans[place].as_ref();
+        match node_list(
+            alloc,
+            m,
+            node,
+            set,
+            plan,
+            own,
+            inputs,
+            lists.as_slice(),
+            words,
+        )? {
             Ok(list) => lists.push(list)?,
             Err(cause) => {
                 return Ok(Outcome::Singular(Singular {

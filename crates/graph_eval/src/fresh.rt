@@ -3,19 +3,17 @@
 ghost use Rattle.std.specs.Prelude.{◌≡◌, ◌<◌, All, IfOk, length, slice_get};
 ghost use Rattle.prime_field.specs.Modulus.{value_of};
 ghost use Rattle.prime_field.specs.Residue.{IsPrime};
-ghost use Rattle.graph_file.specs.Sound.{IsGraph, IsKind};
+ghost use Rattle.graph_file.specs.Sound.{IsGraph};
 ghost use Rattle.graph_eval.specs.Evaluated.{HasInputs, no_graphs};
-ghost use Rattle.graph_eval.specs.Fresh.{FitsFresh, FitsFreshAt, IsFresh, IsFreshAt, NodeLearns};
-ghost use Rattle.graph_eval.specs.GraphValue.{named};
-ghost use Rattle.graph_eval.specs.Learned.{FitsFirst, IsSetFor, sets_of};
+ghost use Rattle.graph_eval.specs.Fresh.{FitsFresh, FitsFreshAt, IsFresh, IsFreshAt};
+ghost use Rattle.graph_eval.specs.Learned.{FitsFirst, sets_of};
 
-use crate::evaluation::node_list;
-use crate::kinds::named;
 use crate::learned::{GraphLearned, Learned};
 use crate::lengths::{learned_of, node_length};
 use crate::outcome::Singular;
-use crate::systems::{make_room, own_set};
-use graph_file::{Graph, Job, Node, NodeKind};
+use crate::own::{learn_node, own_list};
+use crate::systems::scratch;
+use graph_file::{Graph, Job};
 use poly_maps::Point;
 use prime_field::Modulus;
 use ratfun_text::NoMemory;
@@ -33,43 +31,6 @@ pub enum Fresh {
     Length { node: u32 },
 }
 
-/// The set of a node on the lists before it: the independent unknowns of its own system, or nothing where it isn't needed,
-/// where it solves no system, or where the list that it names hasn't as many entries as the system.
-pub(crate) fn node_set(
-    alloc: Global,
-    m: Modulus,
-    node: &Node,
-    inputs: &[u64],
-    lists: &[Items<u64>],
-    words: &mut Vec<u64>,
-) -> Result<Items<u32>, NoMemory>
-    requires sound { IsKind (length inputs.now) (length lists.now) node.now.kind }
-    requires residues { All (λ x. x < value_of m) inputs.now }
-    requires earlier { All (All (λ x. x < value_of m)) lists.now }
-    ensures own { IfOk result (λ set. IsPrime (value_of m) → NodeLearns (value_of m) (named inputs.now lists.now) node.now set) }
-    ensures fits { IfOk result (IsSetFor node.now) }
-{
-    if !node.needed {
-        return Ok(Items::new(alloc));
-    }
-    let NodeKind::Dense {
-        from,
-        rows,
-        unknowns,
-        ..
-    } = &node.kind
-    else {
-        return Ok(Items::new(alloc));
-    };
-    let list = named(inputs, lists, *from);
-    let (rows, unknowns) = (*rows as usize, *unknowns as usize);
-    if list.len() != rows * (unknowns + 1) {
-        return Ok(Items::new(alloc));
-    }
-    make_room(&node.kind, words)?;
-    own_set(alloc, m, rows, unknowns, list, words.as_mut_slice())
-}
-
 /// What is learned of a graph that calls no other at these inputs.
 fn learn_graph(alloc: Global, m: Modulus, graph: &Graph, inputs: &[u64]) -> Result<Fresh, NoMemory>
     requires sound { IsGraph graph.now }
@@ -78,28 +39,22 @@ fn learn_graph(alloc: Global, m: Modulus, graph: &Graph, inputs: &[u64]) -> Resu
     ensures fresh { IfOk result (λ fresh. IsPrime (value_of m) → IsFresh (value_of m) no_graphs graph.now inputs.now fresh) }
     ensures fits { IfOk result (FitsFresh graph.now) }
 {
-    let mut words = Vec::new(alloc);
+    let mut scratch = scratch(alloc, graph)?;
+    let words = scratch.as_mut_slice();
     let mut sets = Vec::new(alloc);
+    let mut plans = Vec::new(alloc);
     let mut lengths = Vec::new(alloc);
     let mut lists = Vec::new(alloc);
     let mut total = 0;
     for (place, node) in graph.nodes.as_slice().iter().enumerate() {
-        let set = node_set(alloc, m, node, inputs, lists.as_slice(), &mut words)?;
+        let own = learn_node(alloc, m, node, inputs, lists.as_slice(), words)?;
+        let set = own.set.as_slice();
         let earlier = lengths.as_slice();
-        let Some(own) = node_length(alloc, node, set.as_slice(), inputs.len(), earlier, total)?
-        else {
+        let Some(count) = node_length(alloc, node, set, inputs.len(), earlier, total)? else {
             return Ok(Fresh::Length { node: place as u32 });
         };
-        match node_list(
-            alloc,
-            m,
-            node,
-            set.as_slice(),
-            own as usize,
-            inputs,
-            lists.as_slice(),
-            &mut words,
-        )? {
+        let before = lists.as_slice();
+        match own_list(alloc, m, node, &own, count as usize, inputs, before, words)? {
             Ok(list) => lists.push(list)?,
             Err(cause) => {
                 return Ok(Fresh::Singular(Singular {
@@ -108,12 +63,14 @@ fn learn_graph(alloc: Global, m: Modulus, graph: &Graph, inputs: &[u64]) -> Resu
                 }));
             }
         }
-        sets.push(set)?;
-        lengths.push(own)?;
-        total += own as usize;
+        sets.push(own.set)?;
+        plans.push(own.plan)?;
+        lengths.push(count)?;
+        total += count as usize;
     }
     let sets = Items::from_vec(sets);
-    Ok(Fresh::Learned(learned_of(inputs.len(), graph.output, lengths, sets)))
+    let plans = Items::from_vec(plans);
+    Ok(Fresh::Learned(learned_of(inputs.len(), graph.output, lengths, sets, plans)))
 }
 
 /// What is learned of the graph with this number, counted from 0, at a point: its first node that fails decides, and where

@@ -4,7 +4,7 @@ ghost use Rattle.std.specs.Prelude.{◌≡◌, ℕ, ◌+◌, ◌-◌, ◌*◌, �
 ghost use Rattle.prime_field.specs.Modulus.{value_of};
 ghost use Rattle.ratfun_text.specs.Value.{greatest, value};
 ghost use Rattle.basic_nodes.specs.Plain.{chained, matrix_product, multiplied, sliced, summed, taken};
-ghost use Rattle.graph_eval.specs.Evaluated.{IsAmong};
+ghost use Rattle.graph_file.specs.Sound.{IsEarlier};
 ghost use Rattle.graph_file.specs.Line.{all_of};
 ghost use Rattle.graph_eval.specs.GraphValue.{named};
 ghost use Rattle.graph_eval.specs.Reading.{HasLength, IsEntry};
@@ -18,7 +18,7 @@ use sqlite_items::Items;
 
 /// The list that a source names: the graph's inputs, or the list of a node.
 pub(crate) fn named<'a>(inputs: &'a [u64], lists: &'a [Items<u64>], source: Source) -> &'a [u64]
-    requires { IsAmong (length lists.now) source }
+    requires { IsEarlier (length lists.now) source }
     ensures { result.now ≡ named inputs.now lists.now source }
 {
     match source {
@@ -73,7 +73,7 @@ pub(crate) fn write_taken(
 
 /// Writes the lists that sources name, one after the other.
 pub(crate) fn write_chained(parts: &[Source], inputs: &[u64], lists: &[Items<u64>], out: &mut [u64])
-    requires there { All (IsAmong (length lists.now)) parts.now }
+    requires there { All (IsEarlier (length lists.now)) parts.now }
     requires room { length out.old ≡ length (chained (map (named inputs.now lists.now) parts.now)) }
     ensures { out.new ≡ chained (map (named inputs.now lists.now) parts.now) }
 {
@@ -94,7 +94,7 @@ pub(crate) fn write_sum(
     out: &mut [u64],
 )
     requires some { 0 < length parts.now }
-    requires there { All (IsAmong (length lists.now)) parts.now }
+    requires there { All (IsEarlier (length lists.now)) parts.now }
     requires same { All (HasLength inputs.now lists.now (length out.old)) parts.now }
     requires residues { All (λ x. x < value_of m) inputs.now }
     requires earlier { All (All (λ x. x < value_of m)) lists.now }
@@ -116,7 +116,7 @@ pub(crate) fn write_product(
     out: &mut [u64],
 )
     requires some { 0 < length parts.now }
-    requires there { All (IsAmong (length lists.now)) parts.now }
+    requires there { All (IsEarlier (length lists.now)) parts.now }
     requires same { All (HasLength inputs.now lists.now (length out.old)) parts.now }
     requires residues { All (λ x. x < value_of m) inputs.now }
     requires earlier { All (All (λ x. x < value_of m)) lists.now }

@@ -2,11 +2,11 @@
 
 ghost use Rattle.std.specs.Prelude.{◌≡◌, ℕ, ◌<◌, false, List, []};
 ghost use Rattle.elim_core.specs.Kept.{HasSolution};
+ghost use Rattle.elim_core.specs.Solved.{IsOwnSet, IsSolved};
 ghost use Rattle.graph_file.specs.declared.graph.Graph.{Graph};
 ghost use Rattle.graph_eval.specs.Fresh.{IsFreshAt, IsMeasuredAt};
 ghost use Rattle.graph_eval.specs.GraphValue.{GraphValue, Outcome};
 ghost use Rattle.graph_eval.specs.Learned.{FailsLength, FitsGraph, IsPlainAt, has_solver};
-ghost use Rattle.graph_eval.specs.Systems.{IsOwnSet, IsSolved};
 ghost use Rattle.graph_eval.specs.declared.fresh.Fresh.{Fresh};
 ghost use Rattle.graph_eval.specs.declared.learned.GraphLearned.{GraphLearned};
 
@@ -16,11 +16,12 @@ pub fn one_outcome()
         → GraphValue m graphs learned number inputs one → GraphValue m graphs learned number inputs other → one ≡ other }
 {}
 
-/// With the same sets, the lists of a graph have one length each and its output has one. Where nothing is learned for any
-/// node, either they have lengths or one node's length breaks a rule.
+/// With the same sets, the lists of a graph have one length each, its output has one, and its nodes have the same plans.
+/// Where nothing is learned for any node, either the lists have lengths or one node's length breaks a rule.
 pub fn one_length()
     ensures lengths { (graph : Graph) (a b : GraphLearned) → a.sets ≡ b.sets → FitsGraph graph a → FitsGraph graph b → a.lengths ≡ b.lengths }
     ensures output { (graph : Graph) (a b : GraphLearned) → a.sets ≡ b.sets → FitsGraph graph a → FitsGraph graph b → a.output ≡ b.output }
+    ensures plans { (graph : Graph) (a b : GraphLearned) → a.sets ≡ b.sets → FitsGraph graph a → FitsGraph graph b → a.plans ≡ b.plans }
     ensures sets { (graph : Graph) (a b : GraphLearned) → has_solver graph ≡ false → FitsGraph graph a → FitsGraph graph b → a.sets ≡ b.sets }
     ensures either { (graph : Graph) (a : GraphLearned) (n : ℕ) → has_solver graph ≡ false → FitsGraph graph a → FailsLength graph n → ⊥ }
     ensures node { (graph : Graph) (n k : ℕ) → FailsLength graph n → FailsLength graph k → n ≡ k }

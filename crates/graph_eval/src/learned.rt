@@ -4,6 +4,7 @@ ghost use Rattle.std.specs.Prelude.{◌≡◌, ◌-◌, ◌<◌, [], ◌∷◌, 
 ghost use Rattle.graph_eval.specs.Learned.{outputs_of};
 
 use ratfun_text::NoMemory;
+use sparse_solver::SparsePlan;
 use sqlite_items::Items;
 use std::alloc::Global;
 use std::marker::Model;
@@ -20,6 +21,8 @@ pub struct GraphLearned {
     /// The unknowns by which each node's system tells the others, ascending, counted from 1; none for a node that isn't
     /// needed or solves no system.
     pub sets: Items<Items<u32>>,
+    /// The plan of each needed node that solves a sparse system, learned with the node's set; none for another node.
+    pub plans: Items<Option<SparsePlan>>,
 }
 
 /// What was learned of a file's graphs, which contracts see as the list of its entries, one a graph in the order of

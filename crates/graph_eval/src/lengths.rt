@@ -1,10 +1,9 @@
 //! The lengths of a graph's lists, by the rules of its nodes alone.
 
 ghost use Rattle.std.specs.Prelude.{◌≡◌, ◌+◌, ◌<◌, ◌≤◌, [], false, All, IfOk, IfSome, None, length, map, sum, vec_len};
-ghost use Rattle.graph_file.specs.Sound.{IsGraph, IsKind, IsNode};
-ghost use Rattle.graph_eval.specs.Evaluated.{IsAmong};
+ghost use Rattle.graph_file.specs.Sound.{IsEarlier, IsGraph, IsKind, IsNode};
 ghost use Rattle.graph_eval.specs.Fresh.{IsMeasured, IsMeasuredAt};
-ghost use Rattle.graph_eval.specs.Learned.{AreEmpty, FitsFirst, IsKindSet, IsPlainAt, IsSetFor, has_solver, is_solver, kind_length, named_length, node_length};
+ghost use Rattle.graph_eval.specs.Learned.{AreEmpty, AreNone, FitsFirst, IsKindSet, IsPlainAt, IsSetFor, has_solver, is_solver, kind_length, named_length, node_length};
 
 use crate::fresh::Fresh;
 use crate::learned::{GraphLearned, Learned};
@@ -12,6 +11,7 @@ use crate::shapes::shape_of;
 use basic_nodes::length_of;
 use graph_file::{Graph, Job, Node, NodeKind, Source, sources_of};
 use ratfun_text::NoMemory;
+use sparse_solver::SparsePlan;
 use sqlite_items::Items;
 use std::alloc::Global;
 
@@ -20,7 +20,7 @@ const ALL_LISTS: usize = 2_097_152;
 
 /// The length of the list that a source names.
 pub(crate) fn named_length(inputs: usize, lengths: &[u32], source: Source) -> usize
-    requires { IsAmong (length lengths.now) source }
+    requires { IsEarlier (length lengths.now) source }
     ensures { result ≡ named_length inputs lengths.now source }
 {
     match source {
@@ -29,25 +29,28 @@ pub(crate) fn named_length(inputs: usize, lengths: &[u32], source: Source) -> us
     }
 }
 
-/// What was learned of a graph whose nodes have these lengths and sets, without the number of its point.
+/// What was learned of a graph whose nodes have these lengths, sets and plans, without the number of its point.
 pub(crate) fn learned_of(
     inputs: usize,
     output: Source,
     lengths: Vec<u32>,
     sets: Items<Items<u32>>,
+    plans: Items<Option<SparsePlan>>,
 ) -> GraphLearned
-    requires there { IsAmong (vec_len lengths) output }
+    requires there { IsEarlier (vec_len lengths) output }
     requires few { inputs ≤ 8 }
     ensures point { result.point ≡ None }
     ensures output { result.output ≡ named_length inputs lengths.items output }
     ensures lengths { result.lengths ≡ lengths.items }
     ensures sets { result.sets ≡ sets }
+    ensures plans { result.plans ≡ plans }
 {
     GraphLearned {
         point: None,
         output: named_length(inputs, lengths.as_slice(), output) as u32,
         lengths: Items::from_vec(lengths),
         sets,
+        plans,
     }
 }
 
@@ -58,7 +61,7 @@ fn named_lengths(
     lengths: &[u32],
     sources: &[Source],
 ) -> Result<Vec<usize>, NoMemory>
-    requires { All (IsAmong (length lengths.now)) sources.now }
+    requires { All (IsEarlier (length lengths.now)) sources.now }
     ensures { IfOk result (λ named. named.items ≡ map (named_length inputs lengths.now) sources.now) }
 {
     let mut named = Vec::new(alloc);
@@ -123,7 +126,7 @@ pub(crate) fn node_length(
 pub fn is_solver(node: &Node) -> bool
     ensures { result ≡ is_solver node.now }
 {
-    node.needed && matches!(node.kind, NodeKind::Dense { .. })
+    node.needed && matches!(node.kind, NodeKind::Dense { .. } | NodeKind::Sparse { .. })
 }
 
 /// Whether some needed node of the graph is a solver, so that the graph is learned at a point.
@@ -144,6 +147,17 @@ fn no_sets(alloc: Global, count: usize) -> Result<Items<Items<u32>>, NoMemory>
     Ok(sets)
 }
 
+/// No plan for any of so many nodes.
+fn no_plans(alloc: Global, count: usize) -> Result<Items<Option<SparsePlan>>, NoMemory>
+    ensures { IfOk result (AreNone count) }
+{
+    let mut plans = Items::new(alloc);
+    for _node in 0..count {
+        plans.push(None)?;
+    }
+    Ok(plans)
+}
+
 /// The lengths of a graph's lists, none of whose needed nodes is a solver, or the node whose length breaks a rule.
 fn graph_lengths(alloc: Global, graph: &Graph) -> Result<Fresh, NoMemory>
     requires sound { IsGraph graph.now }
@@ -161,7 +175,8 @@ fn graph_lengths(alloc: Global, graph: &Graph) -> Result<Fresh, NoMemory>
         total += own as usize;
     }
     let sets = no_sets(alloc, graph.nodes.len())?;
-    Ok(Fresh::Learned(learned_of(inputs, graph.output, lengths, sets)))
+    let plans = no_plans(alloc, graph.nodes.len())?;
+    Ok(Fresh::Learned(learned_of(inputs, graph.output, lengths, sets, plans)))
 }
 
 /// The lengths of the lists of the graph with this number, counted from 0, by the rules of its nodes alone; what was

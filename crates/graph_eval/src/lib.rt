@@ -12,6 +12,7 @@ mod laws;
 mod learned;
 mod lengths;
 mod outcome;
+mod own;
 mod shapes;
 mod systems;
 mod worker;

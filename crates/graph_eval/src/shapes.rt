@@ -1,10 +1,13 @@
 //! What the length of a node's list depends on.
 
-ghost use Rattle.std.specs.Prelude.{◌≡◌, IfOk, map};
+ghost use Rattle.std.specs.Prelude.{◌≡◌, ◌≤◌, IfOk, map};
+ghost use Rattle.elim_core.specs.Sparse.{entries_of};
 ghost use Rattle.ratfun_text.specs.Value.{greatest};
 ghost use Rattle.graph_eval.specs.Learned.{greatest_among, shape_of};
+ghost use Rattle.graph_eval.specs.Systems.{HasFewEntries};
 
 use basic_nodes::NodeShape;
+use elim_core::SparseRow;
 use graph_file::{NodeKind, Source};
 use ratfun_text::{Expr, NoMemory};
 use sqlite_items::Items;
@@ -31,8 +34,21 @@ fn positions_of(alloc: Global, parts: &[(Source, u32)]) -> Result<Vec<usize>, No
         .collect(alloc)
 }
 
+/// How many values sparse rows have together.
+pub(crate) fn entries_of(rows: &[SparseRow]) -> usize
+    requires { entries_of rows.now ≤ 65536 }
+    ensures { result ≡ entries_of rows.now }
+{
+    let mut count = 0;
+    for row in rows {
+        count += row.columns.len();
+    }
+    count
+}
+
 /// The kind of a node with the numbers that its length depends on, where this set was learned for it.
 pub(crate) fn shape_of(alloc: Global, kind: &NodeKind, set: &[u32]) -> Result<NodeShape, NoMemory>
+    requires { HasFewEntries kind.now }
     ensures { IfOk result (λ shape. shape ≡ shape_of set.now kind.now) }
 {
     Ok(match kind {
@@ -67,6 +83,11 @@ pub(crate) fn shape_of(alloc: Global, kind: &NodeKind, set: &[u32]) -> Result<No
             ..
         } => NodeShape::Solver {
             entries: *rows as usize * (*unknowns as usize + 1),
+            wanted: want.len(),
+            independent: set.len(),
+        },
+        NodeKind::Sparse { rows, want, .. } => NodeShape::Solver {
+            entries: entries_of(rows.as_slice()),
             wanted: want.len(),
             independent: set.len(),
         },

@@ -1,32 +1,56 @@
 //! Dense systems of linear equations, solved in words that are lent.
 
-ghost use Rattle.std.specs.Prelude.{◌≡◌, ◌+◌, ◌*◌, ◌<◌, ◌≤◌, All, IfNone, IfOk, IfSome, OnOk, length, vec_len};
+ghost use Rattle.std.specs.Prelude.{◌≡◌, ◌+◌, ◌*◌, ◌<◌, ◌≤◌, All, IfNone, IfOk, IfSome, IsTrue, length, vec_len};
 ghost use Rattle.std.specs.Bool.{OnFalse, OnTrue};
 ghost use Rattle.prime_field.specs.Modulus.{value_of};
 ghost use Rattle.prime_field.specs.Residue.{IsPrime};
 ghost use Rattle.elim_core.specs.Kept.{HasSolution};
+ghost use Rattle.elim_core.specs.Solved.{IsKept, IsOwnSet, IsSolved};
 ghost use Rattle.elim_core.specs.Solver.{AreUnknowns, HasSolverValue, IsAscending};
-ghost use Rattle.graph_eval.specs.Systems.{HasFewUnknowns, IsKept, IsOwnSet, IsSolved, rows_in, words_of};
+ghost use Rattle.graph_file.specs.Sound.{IsGraph};
+ghost use Rattle.graph_eval.specs.Systems.{AreEnough, HasFewUnknowns, rows_in, words_of};
 
 use elim_core::{Elim, Rank};
-use graph_file::NodeKind;
+use graph_file::{Graph, Node, NodeKind};
 use prime_field::Modulus;
 use ratfun_text::NoMemory;
 use sqlite_items::Items;
 use std::alloc::Global;
 
-/// Lets the words be as many as a node of this kind wants for its system.
-pub(crate) fn make_room(kind: &NodeKind, words: &mut Vec<u64>) -> Result<(), NoMemory>
-    requires { HasFewUnknowns kind.now }
-    ensures { OnOk result (words_of kind.now ≤ vec_len words.new) }
+/// How many words a node wants for its system, 0 where it isn't needed or solves none.
+fn words_of(node: &Node) -> usize
+    requires { HasFewUnknowns node.now.kind }
+    ensures { IsTrue node.now.needed → words_of node.now.kind ≤ result }
 {
-    if let NodeKind::Dense { unknowns, .. } = kind {
-        let count = Elim::words(*unknowns as usize);
-        if words.len() < count {
-            words.resize(count, 0)?;
-        }
+    if !node.needed {
+        return 0;
     }
-    Ok(())
+    match node.kind {
+        NodeKind::Dense { unknowns, .. } | NodeKind::Sparse { unknowns, .. } => {
+            Elim::words(unknowns as usize)
+        }
+        _ => 0,
+    }
+}
+
+/// How many words are enough for each system that is solved in a graph.
+fn most_words(graph: &Graph) -> usize
+    requires { IsGraph graph.now }
+    ensures { AreEnough graph.now.nodes result }
+{
+    let mut most = 0;
+    for node in graph.nodes.as_slice() {
+        most = words_of(node).max(most);
+    }
+    most
+}
+
+/// Words that are enough for each system that is solved in a graph.
+pub(crate) fn scratch(alloc: Global, graph: &Graph) -> Result<Vec<u64>, NoMemory>
+    requires { IsGraph graph.now }
+    ensures { IfOk result (λ words. AreEnough graph.now.nodes (vec_len words)) }
+{
+    Ok(vec![in alloc; 0; most_words(graph)]?)
 }
 
 /// Absorbs each row of a system once, in words of which there are enough, or answers nothing where it has no solution.
@@ -75,8 +99,7 @@ pub(crate) fn write_solved(
     requires want { AreUnknowns unknowns want.now }
     requires words { (unknowns + 4) * (unknowns + 2) ≤ length words.old }
     requires room { length out.old ≡ length want.now * (length set.now + 1) }
-    ensures solved { OnTrue result (IsPrime (value_of m)
-        → IsSolved (value_of m) unknowns (rows_in rows unknowns list.now) set.now want.now out.new) }
+    ensures solved { OnTrue result (IsSolved (value_of m) unknowns (rows_in rows unknowns list.now) set.now want.now out.new) }
     ensures undefined { OnFalse result (IsPrime (value_of m)
         → HasSolverValue (value_of m) unknowns (rows_in rows unknowns list.now) set.now → ⊥) }
     ensures residues { OnTrue result (All (λ x. x < value_of m) out.new) }

@@ -175,6 +175,65 @@ fn one_row_of_two_unknowns_is_told_by_the_second(rt: HostRuntime) -> Result<(), 
     Ok(())
 }
 
+/// A file of one variable with the list `c` of these expressions, a sparse system over it with two rows of one unknown, and
+/// these points.
+fn with_two_rows(alloc: Global, exprs: &str, points: &str) -> Result<String, Fail> {
+    Ok(format!(in alloc;
+        "flow 1\ngraph main\ninput x\nnode c eval input = {exprs}\nnode s sparse c 1\nrow 0 1\nrow 0 1\noutput s\n{points}"
+    )?)
+}
+
+#[test]
+fn a_sparse_row_redundant_where_it_is_learned_decides_later(rt: HostRuntime) -> Result<(), Fail> {
+    let exprs = "1 ; 1 ; x-487926954045984774 ; 1";
+    let there = "point 487926954045984775\n";
+    let text = with_two_rows(rt.alloc(), exprs, there)?;
+    let want = Told::Values(Vec::from_slice(rt.alloc(), &[1])?);
+    assert_eq!(rt; told_by(&rt, text.as_str())?, want);
+
+    let both = "point 487926954045984775\npoint 5\n";
+    let text = with_two_rows(rt.alloc(), exprs, both)?;
+    let want = Told::Singular(Singular {
+        node: 1,
+        cause: Cause::System,
+    });
+    assert_eq!(rt; told_by(&rt, text.as_str())?, want);
+    Ok(())
+}
+
+#[test]
+fn a_sparse_system_without_a_solution_is_singular(rt: HostRuntime) -> Result<(), Fail> {
+    let exprs = "1 ; x ; 2 ; 2*x";
+    let text = with_two_rows(rt.alloc(), exprs, "point 2\npoint 0\n")?;
+    let unsolved = Told::Singular(Singular {
+        node: 1,
+        cause: Cause::System,
+    });
+    assert_eq!(rt; told_by(&rt, text.as_str())?, unsolved);
+
+    let text = with_two_rows(rt.alloc(), exprs, "point 2\n")?;
+    let want = Told::Values(Vec::from_slice(rt.alloc(), &[1152921504606846976])?);
+    assert_eq!(rt; told_by(&rt, text.as_str())?, want);
+    Ok(())
+}
+
+#[test]
+fn sparse_rows_are_told_by_the_last_unknown(rt: HostRuntime) -> Result<(), Fail> {
+    let alloc = rt.alloc();
+    let text =
+        "flow 1\ngraph main\ninput d m\nnode c eval input = 4*m ; -(d-4) ; 2*m ; -(d-2)\nnode s sparse c 3 want 1\nrow 1 2\nrow 2 3\noutput s\npoint 7 5\n";
+    let job = job_of(alloc, text)?;
+    let point = job.points.as_slice().first().ok_or("no point")?;
+    let Ok(learned) = learn(alloc, &job, point)? else {
+        return Err(Fail::from("nothing is learned"));
+    };
+    let entry = learned.graph(0);
+    let set = entry.sets.as_slice().last().ok_or("no set")?;
+    assert_eq!(rt; set.as_slice().first(), Some(&3));
+    assert_eq!(rt; (set.len(), entry.output), (1, 2));
+    Ok(())
+}
+
 #[test]
 fn lengths_alone_are_learned_of_a_plain_graph(rt: HostRuntime) -> Result<(), Fail> {
     let alloc = rt.alloc();

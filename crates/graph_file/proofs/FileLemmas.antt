@@ -11,9 +11,10 @@ use Rattle.std.proofs.lemmas.List.Elements.{filter_map-append, filter-append}
 use Rattle.std.proofs.lemmas.Option.{get_or_from_slice_get, slice_get_within}
 use Rattle.graph_file.specs.declared.error.FileKind.{FileKind}
 use Rattle.graph_file.specs.declared.error.FileKind.TheVariants as kind
+use Rattle.graph_file.specs.declared.job.Need.{Need}
 use Rattle.graph_file.specs.declared.line.Line.{Line}
 use Rattle.graph_file.specs.declared.reader.Reader.{Reader}
-use Rattle.graph_file.specs.Faults.{IsBadLine, IsGoodLine}
+use Rattle.graph_file.specs.Faults.{IsBadLine, IsGoodLine, known_in}
 use Rattle.graph_file.specs.File.{AreGood, IsBadAt, IsCutOff, IsFirstBadLine, IsGoodAt, has_output, is_idle_at, said, told}
 use Rattle.graph_file.specs.Line.{line_of}
 use Rattle.graph_file.specs.Lines.{is_passed_over, kept, lines}
@@ -100,7 +101,6 @@ pub next-refused : (all : List (List ℕ)) (place : ℕ) (line : List ℕ) (faul
 next-refused all place line kind.Syntax at counts bad = bad_at all place line kind.Syntax at counts bad
 next-refused all place line kind.Version at counts bad = bad_at all place line kind.Version at counts bad
 next-refused all place line kind.Repeated at counts bad = bad_at all place line kind.Repeated at counts bad
-next-refused all place line kind.UnknownGraph at counts bad = bad_at all place line kind.UnknownGraph at counts bad
 next-refused all place line kind.UnknownNode at counts bad = bad_at all place line kind.UnknownNode at counts bad
 next-refused all place line kind.Residue at counts bad = bad_at all place line kind.Residue at counts bad
 next-refused all place line kind.Limit at counts bad = bad_at all place line kind.Limit at counts bad
@@ -135,22 +135,21 @@ never_missing bytes place number before told = no_missing (said (take place (lin
   where
     open_fault : (earlier : List Line) (o : Option Line) → IsBadLine earlier o kind.Missing → ⊥
     open_fault earlier None bad = cc
-    open_fault earlier (Some says) bad = never_after _ _ _ _ says bad
+    open_fault earlier (Some says) bad = never_after (known_in earlier) says bad
 
     no_missing : (earlier : List Line) (o : Option Line) → IsBadLine earlier o kind.Missing → ⊥
     no_missing earlier o bad = open_fault earlier o bad
 
-pub refused-at : (bytes : List ℕ) (place number : ℕ) (fault : FileKind) → AreGood (lines bytes) place → IsToldAt (lines bytes) place number fault → IsRefusal bytes number fault
-refused-at bytes place number kind.Syntax before told = first_bad bytes place number kind.Syntax before told
-refused-at bytes place number kind.Version before told = first_bad bytes place number kind.Version before told
-refused-at bytes place number kind.Repeated before told = first_bad bytes place number kind.Repeated before told
-refused-at bytes place number kind.UnknownGraph before told = first_bad bytes place number kind.UnknownGraph before told
-refused-at bytes place number kind.UnknownNode before told = first_bad bytes place number kind.UnknownNode before told
-refused-at bytes place number kind.Residue before told = first_bad bytes place number kind.Residue before told
-refused-at bytes place number kind.Limit before told = first_bad bytes place number kind.Limit before told
-refused-at bytes place number (kind.Expr expression error) before told = first_bad bytes place number (kind.Expr expression error) before told
-refused-at bytes place number kind.Missing before told = absurd (never_missing bytes place number before told)
-refused-at bytes place number kind.NoMemory before told = told
+pub refused-at : (need : Need) (bytes : List ℕ) (place number : ℕ) (fault : FileKind) → AreGood (lines bytes) place → IsToldAt (lines bytes) place number fault → IsRefusal need bytes number fault
+refused-at need bytes place number kind.Syntax before told = first_bad bytes place number kind.Syntax before told
+refused-at need bytes place number kind.Version before told = first_bad bytes place number kind.Version before told
+refused-at need bytes place number kind.Repeated before told = first_bad bytes place number kind.Repeated before told
+refused-at need bytes place number kind.UnknownNode before told = first_bad bytes place number kind.UnknownNode before told
+refused-at need bytes place number kind.Residue before told = first_bad bytes place number kind.Residue before told
+refused-at need bytes place number kind.Limit before told = first_bad bytes place number kind.Limit before told
+refused-at need bytes place number (kind.Expr expression error) before told = first_bad bytes place number (kind.Expr expression error) before told
+refused-at need bytes place number kind.Missing before told = absurd (never_missing bytes place number before told)
+refused-at need bytes place number kind.NoMemory before told = told
 
 -- no line is left
 pub at-end : (all : List (List ℕ)) (place : ℕ) → place ≤ length all → drop place all ≡ [] → place ≡ length all
@@ -159,8 +158,8 @@ at-end [] (suc place) within e = absurd (omega arith)
 at-end (first ∷ later) zero within e = cc
 at-end (first ∷ later) (suc place) within e = ap suc (at-end later place (omega arith) e)
 
-pub good-file : (bytes : List ℕ) (place : ℕ) (reader : Reader) → place ≡ length (lines bytes) → AreGood (lines bytes) place → IsRead (said (take place (lines bytes))) reader → has_output reader.stood ≡ true → AreRead bytes (Ok reader)
-good-file bytes place reader whole good read ended =
+pub good-file : (need : Need) (bytes : List ℕ) (place : ℕ) (reader : Reader) → place ≡ length (lines bytes) → AreGood (lines bytes) place → IsRead (said (take place (lines bytes))) reader → has_output reader.stood ≡ true → AreRead need bytes (Ok reader)
+good-file need bytes place reader whole good read ended =
     let all : take place (lines bytes) ≡ lines bytes = take_all place (lines bytes) (omega arith) in
     let kept : IsRead (said (lines bytes)) reader = subst (λ (l : List (List ℕ)). IsRead (said l) reader) all read in
     (record { good = subst (λ (n : ℕ). AreGood (lines bytes) n) whole good; ended = ap has_output (sym kept.last_is) ∙ ended }, kept)

@@ -1,20 +1,23 @@
 -- What a line says fits its pattern, and it has at most one more expression than bytes.
-use Rattle.std.proofs.Common.{◌≡◌, ◌≤◌, ◌+◌, ℕ, zero, suc, Bool, true, false, cond, refl, sym, ap, ◌∙◌, List, [], ◌∷◌, length, map, drop, Option, Some, None, option_map, arith, not, ◌==◌, bytes_eq, codes, IfSome}
+use Rattle.std.proofs.Common.{◌≡◌, ◌≤◌, ◌<◌, ◌+◌, ◌-◌, ◌^◌, min, subst, ℕ, zero, suc, Bool, true, false, cond, refl, sym, ap, ◌∙◌, List, [], ◌∷◌, length, map, drop, Option, Some, None, option_map, arith, not, ◌==◌, bytes_eq, codes, IfSome}
 use Rattle.std.specs.List.{slice_split, list_all, position_or_len}
 use Rattle.std.specs.Option.{option_and_then}
 use Rattle.std.proofs.lemmas.List.{length-drop}
 use Rattle.std.proofs.lemmas.List.Splits.{length-slice_split}
 use Rattle.std.proofs.lemmas.List.Sums.{count_by-le-length}
-use Rattle.ratfun_text.specs.Bytes.{is_blank, is_name, trim_start}
-use Rattle.graph_file.specs.Formed.{IsFormed, IsWant, IsWhole}
+use Rattle.ratfun_text.specs.Bytes.{is_blank, is_name, number_of, trim_start}
+use Rattle.graph_file.specs.Formed.{Ascend, IsFormed, IsWant, IsWhole}
+use Rattle.graph_file.proofs.KindLemmas.{IsCons, cons_of}
+use Rattle.graph_file.proofs.Passes.{both}
+use Rattle.std.proofs.lemmas.Bool.Decides.{nat_tests}
 use Rattle.graph_file.specs.Lines.{after_word, after_words, is_plain, words}
 use Rattle.graph_file.specs.declared.line.Line.{Line}
-use Rattle.graph_file.specs.declared.line.Line.TheVariants.{Flow, Graph, Input, Node, Point}
+use Rattle.graph_file.specs.declared.line.Line.TheVariants.{Flow, Graph, Input, Node, Row, Point}
 use Rattle.graph_file.specs.declared.line.Statement.{Statement}
 use Rattle.graph_file.specs.declared.line.Statement.TheVariants.{Eval, Take, Matmul}
 use Rattle.graph_file.specs.declared.line.Want.{Want}
 use Rattle.graph_file.specs.declared.line.Want.TheVariants.{Numbers}
-use Rattle.graph_file.specs.Line.{all_of, entry_of, size_of, flow_line, graph_line, input_line, output_line, point_line, eval_node, take_node, part_before, parts_of, slice_node, slice_from, chain_node, sum_node, product_node, matmul_node, sides_of, numbers_wanted, want_of, dense_from, dense_node, statement_of, node_line, line_of_words, line_of}
+use Rattle.graph_file.specs.Line.{all_of, entry_of, size_of, flow_line, graph_line, input_line, output_line, point_line, eval_node, take_node, part_before, parts_of, slice_node, slice_from, chain_node, sum_node, product_node, matmul_node, sides_of, numbers_wanted, want_of, dense_from, dense_node, sparse_from, sparse_node, are_less, are_ascending, row_line, statement_of, node_line, line_of_words, line_of}
 
 chosen : {A : Type 0} (P : A → Type 0) (b : Bool) (x y : Option A) → IfSome x P → IfSome y P → IfSome (cond b x y) P
 chosen P true x y first second = first
@@ -27,6 +30,36 @@ tested P false x first = tt
 made : {A B : Type 0} (P : B → Type 0) (make : A → B) (o : Option A) → ((a : A) → P (make a)) → IfSome (option_map make o) P
 made P make None each = tt
 made P make (Some a) each = each a
+
+made_with : {A B : Type 0} (P : B → Type 0) (make : A → B) (o : Option A) → ((a : A) → o ≡ Some a → P (make a)) → IfSome (option_map make o) P
+made_with P make None each = tt
+made_with P make (Some a) each = each a refl
+
+-- numbers of words that ascend
+sizes_less : (first second : Option ℕ) (a b : ℕ) → are_less first second ≡ true → option_map (λ n. min n (2 ^ 32 - 1)) first ≡ Some a → option_map (λ n. min n (2 ^ 32 - 1)) second ≡ Some b → b < 2 ^ 32 - 1 → a < b
+sizes_less None second a b less is also small = cc
+sizes_less (Some m) None a b less is also small = cc
+sizes_less (Some m) (Some n) a b less is also small =
+    let under : m < n = grind (arith, nat_tests, less) in
+    let one : min m (2 ^ 32 - 1) ≡ a = let told : Some (min m (2 ^ 32 - 1)) ≡ Some a = is in cc in
+    let two : min n (2 ^ 32 - 1) ≡ b = let told : Some (min n (2 ^ 32 - 1)) ≡ Some b = also in cc in
+    omega (arith, under, one, two, small)
+
+ascend_of : (word : List ℕ) (words : List (List ℕ)) (kept : List ℕ) → are_ascending (word ∷ words) ≡ true → all_of (map size_of (word ∷ words)) ≡ Some kept → (1 ≤ length kept) × Ascend kept
+ascend_of word [] kept ascend is =
+    let parts : IsCons (size_of word) [] kept = cons_of (size_of word) [] kept is in
+    let none : [] ≡ parts.tail = let told : Some [] ≡ Some parts.tail = parts.others in cc in
+    let whole : kept ≡ parts.head ∷ [] = parts.whole ∙ ap (λ l. parts.head ∷ l) (sym none) in
+    subst (λ (l : List ℕ). (1 ≤ length l) × Ascend l) (sym whole) (omega arith, tt)
+ascend_of word (next ∷ words) kept ascend is =
+    let parts : IsCons (size_of word) (map size_of (next ∷ words)) kept = cons_of (size_of word) (map size_of (next ∷ words)) kept is in
+    let later : IsCons (size_of next) (map size_of words) parts.tail = cons_of (size_of next) (map size_of words) parts.tail parts.others in
+    let tests : (are_less (number_of word) (number_of next) ≡ true) × (are_ascending (next ∷ words) ≡ true) = both _ _ ascend in
+    let rest : (1 ≤ length parts.tail) × Ascend parts.tail = ascend_of next words parts.tail tests.1 parts.others in
+    let rest_is : Ascend (later.head ∷ later.tail) = subst Ascend later.whole rest.1 in
+    let whole : kept ≡ parts.head ∷ later.head ∷ later.tail = parts.whole ∙ ap (λ l. parts.head ∷ l) later.whole in
+    subst (λ (l : List ℕ). (1 ≤ length l) × Ascend l) (sym whole)
+    (omega arith, (λ small. sizes_less (number_of word) (number_of next) parts.head later.head tests.0 parts.first later.first small, rest_is))
 
 after_word-shorter : (line : List ℕ) → length (after_word line) ≤ length line
 after_word-shorter line = omega (arith, length-drop (position_or_len is_blank (trim_start line)) (trim_start line), length-drop (position_or_len (λ byte. not (is_blank byte)) line) line)
@@ -104,6 +137,16 @@ module _ (n : ℕ) where
   dense_nodes (a ∷ b ∷ []) = tt
   dense_nodes (a ∷ b ∷ c ∷ later) = systems a (size_of b) (size_of c) (want_of later) (wants later)
 
+  sparse_systems : (from : List ℕ) (unknowns : Option ℕ) (want : Option Want) → IfSome want IsWant → IfSome (sparse_from from unknowns want) (IsWhole n)
+  sparse_systems from None want is = tt
+  sparse_systems from (Some unknowns) None is = tt
+  sparse_systems from (Some unknowns) (Some want) is = is
+
+  sparse_nodes : (words : List (List ℕ)) → IfSome (sparse_node words) (IsWhole n)
+  sparse_nodes [] = tt
+  sparse_nodes (a ∷ []) = tt
+  sparse_nodes (a ∷ b ∷ later) = sparse_systems a (size_of b) (want_of later) (wants later)
+
   named : (name : List ℕ) (statement : Option Statement) → is_name name ≡ true → IfSome statement (IsWhole n) → IfSome (option_map (Node name) statement) (IsFormed n)
   named name None is whole = tt
   named name (Some statement) is whole = (is, whole)
@@ -115,7 +158,7 @@ module _ (n : ℕ) where
 
   graphs : (words : List (List ℕ)) → IfSome (graph_line words) (IsFormed n)
   graphs [] = tt
-  graphs (name ∷ []) = tested (IsFormed n) (is_name name) (Some (Graph name)) (λ is. tt)
+  graphs (name ∷ []) = tested (IsFormed n) (is_name name) (Some (Graph name)) (λ is. is)
   graphs (a ∷ b ∷ later) = tt
 
   inputs : (words : List (List ℕ)) → IfSome (input_line words) (IsFormed n)
@@ -126,6 +169,12 @@ module _ (n : ℕ) where
   outputs [] = tt
   outputs (list ∷ []) = tt
   outputs (a ∷ b ∷ later) = tt
+
+  rows : (words : List (List ℕ)) → IfSome (row_line words) (IsFormed n)
+  rows [] = tt
+  rows (column ∷ columns) =
+      tested (IsFormed n) (are_ascending (column ∷ columns)) (option_map Row (all_of (map size_of (column ∷ columns))))
+      (λ ascend. made_with (IsFormed n) Row (all_of (map size_of (column ∷ columns))) (λ kept is. ascend_of column columns kept ascend is))
 
   points : (words : List (List ℕ)) → IfSome (point_line words) (IsFormed n)
   points [] = tt
@@ -151,7 +200,8 @@ statements line kind words =
     (chosen (IsWhole n) (bytes_eq kind (codes "sum")) _ _ (sums n words)
     (chosen (IsWhole n) (bytes_eq kind (codes "product")) _ _ (products n words)
     (chosen (IsWhole n) (bytes_eq kind (codes "matmul")) _ _ (matmuls n words)
-    (chosen (IsWhole n) (bytes_eq kind (codes "dense")) _ None (dense_nodes n words) tt)))))))
+    (chosen (IsWhole n) (bytes_eq kind (codes "dense")) _ _ (dense_nodes n words)
+    (chosen (IsWhole n) (bytes_eq kind (codes "sparse")) _ None (sparse_nodes n words) tt))))))))
 
 nodes : (line : List ℕ) (words : List (List ℕ)) → IfSome (node_line line words) (IsFormed (length line + 1))
 nodes line [] = tt
@@ -166,8 +216,9 @@ by_words line (first ∷ later) =
     (chosen (IsFormed n) (bytes_eq first (codes "graph")) _ _ (graphs n later)
     (chosen (IsFormed n) (bytes_eq first (codes "input")) _ _ (inputs n later)
     (chosen (IsFormed n) (bytes_eq first (codes "node")) _ _ (nodes line later)
+    (chosen (IsFormed n) (bytes_eq first (codes "row")) _ _ (rows n later)
     (chosen (IsFormed n) (bytes_eq first (codes "output")) _ _ (outputs n later)
-    (chosen (IsFormed n) (bytes_eq first (codes "point")) _ None (points n later) tt)))))
+    (chosen (IsFormed n) (bytes_eq first (codes "point")) _ None (points n later) tt))))))
 
 -- what a line says fits its pattern
 pub line-formed : (line : List ℕ) → IfSome (line_of line) (IsFormed (length line + 1))

@@ -10,17 +10,19 @@ use Rattle.graph_file.specs.declared.graph.Node.{Node}
 use Rattle.graph_file.specs.declared.graph.NodeKind.{NodeKind}
 use Rattle.graph_file.specs.declared.graph.Source.{Source}
 use Rattle.graph_file.specs.declared.graph.Source.TheVariants as source
+use Rattle.graph_file.specs.declared.job.Need.{Need}
 use Rattle.graph_file.specs.declared.reader.Reader.{Reader}
 use Rattle.graph_file.specs.File.{has_output, said}
 use Rattle.graph_file.specs.Lines.{lines}
 use Rattle.graph_file.specs.Marks.{AreMarkedFrom, IsSet, ReadEarlier}
 use Rattle.graph_file.specs.Needed.{IsNeededFor, Reads, kinds_of}
 use Rattle.graph_file.specs.Read.{IsRead}
-use Rattle.graph_file.specs.Reader.{AreVariables}
+use Rattle.graph_file.specs.Reader.{AreVariables, IsBegunNode}
 use Rattle.graph_file.specs.Says.{AreKinds, Says, names_of}
-use Rattle.graph_file.specs.Sound.{IsGraph, IsJob, IsMarked, IsNode}
+use Rattle.graph_file.specs.Sound.{IsGraph, IsJob, IsKind, IsNode}
 use Rattle.graph_file.proofs.MarkLemmas.{set-needed}
-use Rattle.graph_file.proofs.SoundLemmas.{input_with_output}
+use Rattle.graph_file.proofs.KindFacts.{reads_earlier}
+use Rattle.graph_file.proofs.SoundLemmas.{input_with_output, whole_kind, whole_with_output}
 
 -- what an element was made of
 record IsMadeOf {X Y : Type 0} (f : X → Y) (xs : List X) (k : ℕ) (y : Y) : Type 0 where
@@ -33,12 +35,18 @@ made_of f [] k y at = cc
 made_of f (x ∷ xs) zero y at = record { from = x; there = refl; is = let told : Some (f x) ≡ Some y = at in cc }
 made_of f (x ∷ xs) (suc k) y at = let later : IsMadeOf f xs k y = made_of f xs k y at in record { from = later.from; there = later.there; is = later.is }
 
+-- each node has its rows behind the output
+whole_node : (reader : Reader) → has_output reader.stood ≡ true → (k : ℕ) (node : Node) → slice_get reader.nodes.items k ≡ Some node → IsKind (length (variables_of reader.variables)) k node.kind
+whole_node reader ended k node at =
+    whole_kind (length (variables_of reader.variables)) k node.kind (reader.sound.begun k node at).kind
+    (reader.sound.filled k node at (λ is. absurd (whole_with_output reader.stood ended is)))
+
 -- each node reads earlier ones
-pub read-earlier : (reader : Reader) (nodes : List Node) → nodes ≡ reader.nodes.items → ReadEarlier (kinds_of nodes)
-read-earlier reader nodes same j k kind at reads =
+pub read-earlier : (reader : Reader) (nodes : List Node) → has_output reader.stood ≡ true → nodes ≡ reader.nodes.items → ReadEarlier (kinds_of nodes)
+read-earlier reader nodes ended same j k kind at reads =
     let made : IsMadeOf (λ (node : Node). node.kind) nodes j kind = made_of (λ (node : Node). node.kind) nodes j kind at in
     let there : slice_get reader.nodes.items j ≡ Some made.from = ap (λ (l : List Node). slice_get l j) (sym same) ∙ made.there in
-    (reader.sound.are_nodes j made.from there).kind.earlier k (subst (λ (c : NodeKind). Reads c (source.Node k)) (sym made.is) reads)
+    reads_earlier (length (variables_of reader.variables)) j made.from.kind (whole_node reader ended j made.from there) k (subst (λ (c : NodeKind). Reads c (source.Node k)) (sym made.is) reads)
 
 -- a node that was marked
 record WasMarked (reader : Reader) (k : ℕ) (node : Node) : Type 0 where
@@ -56,15 +64,15 @@ module _ (reader : Reader) (nodes : List Node) (names_are : names_of nodes ≡ n
       let named : Some made.from.name ≡ Some node.name = ap (option_map (λ (n : Node). n.name)) (sym made.there) ∙ sym (slice_get-map (λ (n : Node). n.name) reader.nodes.items k) ∙ name_at in
       record { was = made.from; there = made.there; name_is = cc; kind_is = made.is }
 
-  is-node : (k : ℕ) (node : Node) → slice_get nodes k ≡ Some node → IsNode (length (variables_of reader.variables)) k node
-  is-node k node at =
+  is-node : has_output reader.stood ≡ true → (k : ℕ) (node : Node) → slice_get nodes k ≡ Some node → IsNode (length (variables_of reader.variables)) k node
+  is-node ended k node at =
       let marked : WasMarked reader k node = was-marked k node at in
-      let sound : IsNode (length (variables_of reader.variables)) k marked.was = reader.sound.are_nodes k marked.was marked.there in
+      let sound : IsBegunNode (length (variables_of reader.variables)) k marked.was = reader.sound.begun k marked.was marked.there in
       record {
         named = subst (λ n. Rattle.std.proofs.Common.IsTrue (Rattle.ratfun_text.specs.Bytes.is_name n)) marked.name_is sound.named;
         short = subst (λ (n : List ℕ). length n ≤ 32) marked.name_is sound.short;
         no_input = λ same. sound.no_input (marked.name_is ∙ same);
-        kind = subst (λ (c : NodeKind). Rattle.graph_file.specs.Sound.IsKind (length (variables_of reader.variables)) k c) marked.kind_is sound.kind;
+        kind = subst (λ (c : NodeKind). IsKind (length (variables_of reader.variables)) k c) marked.kind_is (whole_node reader ended k marked.was marked.there);
       }
 
   count_is : length nodes ≡ length reader.nodes.items
@@ -87,12 +95,13 @@ module _ (reader : Reader) (nodes : List Node) (names_are : names_of nodes ≡ n
     graph-sound ended name_is output_is =
         let variables : AreVariables (variables_of reader.variables) = reader.sound.inputs (input_with_output reader.stood ended) in
         record {
-          short = reader.sound.short name name_is;
+          named = (reader.sound.named name name_is).0;
+          short = (reader.sound.named name name_is).1;
           some = variables.some;
           few = variables.few;
           variables = variables.are_names;
           bounded = omega (arith, count_is, reader.sound.bounded);
-          nodes = is-node;
+          nodes = is-node ended;
           distinct = λ i j first second at_first at_second same.
               let one : WasMarked reader i first = was-marked i first at_first in
               let two : WasMarked reader j second = was-marked j second at_second in
@@ -109,15 +118,15 @@ module _ (reader : Reader) (nodes : List Node) (names_are : names_of nodes ≡ n
       bounded = omega arith;
       few_points = reader.sound.few_points;
       graph = only_graph;
-      entries = λ k point graph at_point at_graph. let same : Some made ≡ Some graph = at_graph in let equal : made ≡ graph = cc in reader.sound.entries k point at_point ∙ ap (λ (g : Graph). length g.inputs) equal;
+      entries = λ k point graph at_point at_graph. let same : Some made ≡ Some graph = at_graph in let equal : made ≡ graph = cc in reader.sound.fitting k point at_point ∙ ap (λ (g : Graph). length g.inputs) equal;
     })
       where
         only_graph : (k : ℕ) (graph : Graph) → slice_get (made ∷ []) k ≡ Some graph → IsGraph graph
         only_graph zero graph at = let same : Some made ≡ Some graph = at in let equal : made ≡ graph = cc in subst IsGraph equal (graph-sound ended name_is output_is)
         only_graph (suc k) graph at = cc
 
-    pub says-job : (graphs : List Graph) → graphs ≡ made ∷ [] → reader.name ≡ Some name → reader.output ≡ Some output → (bytes : List ℕ) → IsRead (said (lines bytes)) reader → Says bytes (record { graphs = graphs; points = reader.points })
-    says-job graphs only name_is output_is bytes read = record {
+    pub says-job : (graphs : List Graph) → graphs ≡ made ∷ [] → reader.name ≡ Some name → reader.output ≡ Some output → (need : Need) (bytes : List ℕ) → IsRead (said (lines bytes)) reader → Says need bytes (record { graphs = graphs; points = reader.points })
+    says-job graphs only name_is output_is need bytes read = record {
       graph = made;
       only = only;
       says_graph = record {

@@ -11,42 +11,43 @@ use Rattle.ratfun_text.specs.Names.{last_argument}
 use Rattle.ratfun_text.specs.Value.{greatest}
 use Rattle.ratfun_text.specs.declared.expr.Expr.{Expr}
 use Rattle.ratfun_text.specs.declared.names.Names.TheVariants.{Listed, Numbered}
-use Rattle.graph_file.specs.Faults.{are_sides, is_counted, is_in_range, is_known, is_position, is_product, is_range, is_system, is_want, lists_in, names_in, names_over}
+use Rattle.graph_file.specs.Faults.{are_sides, is_counted, is_in_range, is_known, is_position, is_product, is_range, is_system, is_want, lists_in, node_stood, unknowns_of, names_in, names_over}
 use Rattle.graph_file.specs.Formed.{IsWant, IsWhole}
 use Rattle.graph_file.specs.Line.{all_of, texts_in}
 use Rattle.graph_file.specs.Says.{AreTrees, kind_of, part_named, source_named, wanted}
-use Rattle.graph_file.specs.Sound.{AreSides, IsDense, IsKind, IsPosition}
+use Rattle.graph_file.specs.Reader.{HasNoRows, IsBegun, kind_stood, kind_unknowns}
+use Rattle.graph_file.specs.Sound.{AreLists, AreSides, IsDense, IsEarlier, IsPosition, IsSlice}
 use Rattle.graph_file.specs.declared.graph.NodeKind.{NodeKind}
 use Rattle.graph_file.specs.declared.graph.NodeKind.TheVariants as node
 use Rattle.graph_file.specs.declared.graph.Source.{Source}
 use Rattle.graph_file.specs.declared.graph.Source.TheVariants as source
 use Rattle.graph_file.specs.declared.line.Line.TheVariants as line
 use Rattle.graph_file.specs.declared.line.Statement.{Statement}
-use Rattle.graph_file.specs.declared.line.Statement.TheVariants.{Eval, Take, Slice, Chain, Sum, Product, Matmul, Dense}
+use Rattle.graph_file.specs.declared.line.Statement.TheVariants.{Eval, Take, Slice, Chain, Sum, Product, Matmul, Dense, Sparse}
 use Rattle.graph_file.specs.declared.line.Want.{Want}
 use Rattle.graph_file.specs.declared.line.Want.TheVariants.{Every, Numbers}
 use Rattle.graph_file.proofs.Passes.{both, list_all-at}
 use Rattle.graph_file.proofs.TableLemmas.{is_some-position}
 
 -- an answer that is there was made of one
-record IsMade {A B : Type 0} (make : A → B) (o : Option A) (made : B) : Type 0 where
-  from : A
-  there : o ≡ Some from
-  is : make from ≡ made
+pub record IsMade {A B : Type 0} (make : A → B) (o : Option A) (made : B) : Type 0 where
+  pub from : A
+  pub there : o ≡ Some from
+  pub is : make from ≡ made
 
-made_of : {A B : Type 0} (make : A → B) (o : Option A) (made : B) → option_map make o ≡ Some made → IsMade make o made
+pub made_of : {A B : Type 0} (make : A → B) (o : Option A) (made : B) → option_map make o ≡ Some made → IsMade make o made
 made_of make None made e = cc
 made_of make (Some a) made e = record { from = a; there = refl; is = let told : Some (make a) ≡ Some made = e in cc }
 
 -- the first answer and the others
-record IsCons {A : Type 0} (o : Option A) (later : List (Option A)) (answers : List A) : Type 0 where
-  head : A
-  tail : List A
-  first : o ≡ Some head
-  others : all_of later ≡ Some tail
-  whole : answers ≡ head ∷ tail
+pub record IsCons {A : Type 0} (o : Option A) (later : List (Option A)) (answers : List A) : Type 0 where
+  pub head : A
+  pub tail : List A
+  pub first : o ≡ Some head
+  pub others : all_of later ≡ Some tail
+  pub whole : answers ≡ head ∷ tail
 
-cons_of : {A : Type 0} (o : Option A) (later : List (Option A)) (answers : List A) → all_of (o ∷ later) ≡ Some answers → IsCons o later answers
+pub cons_of : {A : Type 0} (o : Option A) (later : List (Option A)) (answers : List A) → all_of (o ∷ later) ≡ Some answers → IsCons o later answers
 cons_of None later answers e = cc
 cons_of (Some a) later answers e =
     let made : IsMade (λ others. a ∷ others) (all_of later) answers = made_of (λ others. a ∷ others) (all_of later) answers e in
@@ -103,152 +104,21 @@ module _ (names : List (List ℕ)) where
       from true f = refl
       from false f = absurd (no_input _ f)
 
-  -- what a node reads by one list, by two, or by many
-  abbrev IsEarlier : Source → Type 0
-  IsEarlier from = (k : ℕ) → from ≡ source.Node k → k < length names
+  -- what a node reads by one list, by many, or by a part
+  named_earlier : (list : List ℕ) (from : Source) → source_named names list ≡ Some from → IsEarlier (length names) from
+  named_earlier list source.Input e = tt
+  named_earlier list (source.Node k) e = source-earlier list k e
 
-  named_earlier : (list : List ℕ) (from : Source) → source_named names list ≡ Some from → IsEarlier from
-  named_earlier list from e k is = source-earlier list k (e ∙ ap (λ s. Some s) is)
+  lists_earlier : (lists : List (List ℕ)) (sources : List Source) → all_of (map (source_named names) lists) ≡ Some sources → (k : ℕ) (from : Source) → slice_get sources k ≡ Some from → IsEarlier (length names) from
+  lists_earlier lists sources e = answered (IsEarlier (length names)) (source_named names) lists sources e named_earlier
 
-  lists_earlier : (lists : List (List ℕ)) (sources : List Source) → all_of (map (source_named names) lists) ≡ Some sources → (k : ℕ) → ((i : ℕ) × (slice_get sources i ≡ Some (source.Node k))) → k < length names
-  lists_earlier lists sources e k reads = answered IsEarlier (source_named names) lists sources e named_earlier reads.0 (source.Node k) reads.1 k refl
-
-  part_earlier : (part : List ℕ × ℕ) (wanted : Source × ℕ) → part_named names part ≡ Some wanted → IsEarlier wanted.0
+  part_earlier : (part : List ℕ × ℕ) (wanted : Source × ℕ) → part_named names part ≡ Some wanted → IsEarlier (length names) wanted.0
   part_earlier part wanted e =
       let made : IsMade (λ list. (list, part.1)) (source_named names part.0) wanted = made_of (λ list. (list, part.1)) (source_named names part.0) wanted e in
-      λ k is. source-earlier part.0 k (made.there ∙ ap (λ s. Some s) (ap (λ (w : Source × ℕ). w.0) made.is ∙ is))
+      subst (λ (w : Source × ℕ). IsEarlier (length names) w.0) made.is (named_earlier part.0 made.from made.there)
 
 position_is : (n : ℕ) → is_position n ≡ true → IsPosition n
 position_is n e = let parts : (nat_le 1 n ≡ true) × (nat_le n 262144 ≡ true) = both _ _ e in record { first = grind (arith, nat_tests, parts.0); last = grind (arith, nat_tests, parts.1) }
-
--- the kinds
-module _ (variables number : ℕ) where
-  eval_sound : (from : Source) (exprs : List Expr) → ((k : ℕ) → from ≡ source.Node k → k < number) → 1 ≤ length exprs → (from ≡ source.Input → (k : ℕ) (expr : Expr) → slice_get exprs k ≡ Some expr → greatest expr ≤ variables) → IsKind variables number (node.Eval from exprs)
-  eval_sound from exprs earlier some arguments = record {
-    earlier = λ k reads. earlier k (only from reads.0 (source.Node k) reads.1);
-    some = λ e. cc;
-    exprs = λ f is. some_left exprs some (let told : node.Eval from exprs ≡ node.Eval f [] = is in cc);
-    arguments = λ es is k expr at.
-        let told : node.Eval from exprs ≡ node.Eval source.Input es = is in
-        let input : from ≡ source.Input = cc in
-        let same : exprs ≡ es = cc in
-        arguments input k expr (ap (λ (l : List Expr). slice_get l k) same ∙ at);
-    positions = λ parts is. cc;
-    range = λ f first last is. cc;
-    sides = λ left right rows mid cols is. cc;
-    dense = λ f rows unknowns want is. cc;
-  }
-
-  take_sound : (parts : List (Source × ℕ)) → ((k : ℕ) (part : Source × ℕ) → slice_get parts k ≡ Some part → (j : ℕ) → part.0 ≡ source.Node j → j < number) → 1 ≤ length parts → ((k : ℕ) (part : Source × ℕ) → slice_get parts k ≡ Some part → IsPosition part.1) → IsKind variables number (node.Take parts)
-  take_sound parts earlier some positions = record {
-    earlier = λ k reads. by_part parts earlier k reads.0 reads.1;
-    some = λ e. some_left parts some (empty parts e);
-    exprs = λ f is. cc;
-    arguments = λ es is. cc;
-    positions = λ ps is k part at. let told : node.Take parts ≡ node.Take ps = is in let same : parts ≡ ps = cc in positions k part (ap (λ (l : List (Source × ℕ)). slice_get l k) same ∙ at);
-    range = λ f first last is. cc;
-    sides = λ left right rows mid cols is. cc;
-    dense = λ f rows unknowns want is. cc;
-  }
-    where
-      by_part : (ps : List (Source × ℕ)) → ((k : ℕ) (part : Source × ℕ) → slice_get ps k ≡ Some part → (j : ℕ) → part.0 ≡ source.Node j → j < number) → (k i : ℕ) → slice_get (map (λ part. part.0) ps) i ≡ Some (source.Node k) → k < number
-      by_part [] each k i at = cc
-      by_part (p ∷ ps) each k zero at = each 0 p refl k (let told : Some p.0 ≡ Some (source.Node k) = at in cc)
-      by_part (p ∷ ps) each k (suc i) at = by_part ps (λ n part is. each (suc n) part is) k i at
-
-      empty : (ps : List (Source × ℕ)) → map (λ part. part.0) ps ≡ [] → ps ≡ []
-      empty [] e = refl
-      empty (p ∷ ps) e = cc
-
-  slice_sound : (from : Source) (first last : ℕ) → ((k : ℕ) → from ≡ source.Node k → k < number) → (1 ≤ first) × (first ≤ last) × (last ≤ 262144) → IsKind variables number (node.Slice from first last)
-  slice_sound from first last earlier range = record {
-    earlier = λ k reads. earlier k (only from reads.0 (source.Node k) reads.1);
-    some = λ e. cc;
-    exprs = λ f is. cc;
-    arguments = λ es is. cc;
-    positions = λ parts is. cc;
-    range = λ f a b is.
-        let told : node.Slice from first last ≡ node.Slice f a b = is in
-        let same : first ≡ a = cc in
-        let end : last ≡ b = cc in
-        (omega (arith, range.0), omega (arith, range.1), omega (arith, range.2));
-    sides = λ left right rows mid cols is. cc;
-    dense = λ f rows unknowns want is. cc;
-  }
-
-  chain_sound : (parts : List Source) → ((k : ℕ) → ((i : ℕ) × (slice_get parts i ≡ Some (source.Node k))) → k < number) → 1 ≤ length parts → IsKind variables number (node.Chain parts)
-  chain_sound parts earlier some = record {
-    earlier = earlier;
-    some = some_left parts some;
-    exprs = λ f is. cc;
-    arguments = λ es is. cc;
-    positions = λ ps is. cc;
-    range = λ f a b is. cc;
-    sides = λ left right rows mid cols is. cc;
-    dense = λ f rows unknowns want is. cc;
-  }
-
-  sum_sound : (parts : List Source) → ((k : ℕ) → ((i : ℕ) × (slice_get parts i ≡ Some (source.Node k))) → k < number) → 1 ≤ length parts → IsKind variables number (node.Sum parts)
-  sum_sound parts earlier some = record {
-    earlier = earlier;
-    some = some_left parts some;
-    exprs = λ f is. cc;
-    arguments = λ es is. cc;
-    positions = λ ps is. cc;
-    range = λ f a b is. cc;
-    sides = λ left right rows mid cols is. cc;
-    dense = λ f rows unknowns want is. cc;
-  }
-
-  product_sound : (parts : List Source) → ((k : ℕ) → ((i : ℕ) × (slice_get parts i ≡ Some (source.Node k))) → k < number) → 1 ≤ length parts → IsKind variables number (node.Product parts)
-  product_sound parts earlier some = record {
-    earlier = earlier;
-    some = some_left parts some;
-    exprs = λ f is. cc;
-    arguments = λ es is. cc;
-    positions = λ ps is. cc;
-    range = λ f a b is. cc;
-    sides = λ left right rows mid cols is. cc;
-    dense = λ f rows unknowns want is. cc;
-  }
-
-  matmul_sound : (left right : Source) (rows mid cols : ℕ) → ((k : ℕ) → left ≡ source.Node k → k < number) → ((k : ℕ) → right ≡ source.Node k → k < number) → AreSides rows mid cols → IsKind variables number (node.Matmul left right rows mid cols)
-  matmul_sound left right rows mid cols left_earlier right_earlier sides = record {
-    earlier = λ k reads. by_place k reads.0 reads.1;
-    some = λ e. cc;
-    exprs = λ f is. cc;
-    arguments = λ es is. cc;
-    positions = λ ps is. cc;
-    range = λ f a b is. cc;
-    sides = λ l r a b c is.
-        let told : node.Matmul left right rows mid cols ≡ node.Matmul l r a b c = is in
-        let first : rows ≡ a = cc in
-        let second : mid ≡ b = cc in
-        let third : cols ≡ c = cc in
-        subst (λ (x : ℕ). AreSides x b c) first (subst (λ (y : ℕ). AreSides rows y c) second (subst (λ (z : ℕ). AreSides rows mid z) third sides));
-    dense = λ f rows unknowns want is. cc;
-  }
-    where
-      by_place : (k i : ℕ) → slice_get (left ∷ right ∷ []) i ≡ Some (source.Node k) → k < number
-      by_place k zero at = left_earlier k (let told : Some left ≡ Some (source.Node k) = at in cc)
-      by_place k (suc i) at = right_earlier k (only right i (source.Node k) at)
-
-  dense_sound : (from : Source) (rows unknowns : ℕ) (want : List ℕ) → ((k : ℕ) → from ≡ source.Node k → k < number) → IsDense rows unknowns want → IsKind variables number (node.Dense from rows unknowns want)
-  dense_sound from rows unknowns want earlier system = record {
-    earlier = λ k reads. earlier k (only from reads.0 (source.Node k) reads.1);
-    some = λ e. cc;
-    exprs = λ f is. cc;
-    arguments = λ es is. cc;
-    positions = λ parts is. cc;
-    range = λ f a b is. cc;
-    sides = λ left right r m c is. cc;
-    dense = λ f r u w is.
-        let told : node.Dense from rows unknowns want ≡ node.Dense f r u w = is in
-        let first : rows ≡ r = cc in
-        let second : unknowns ≡ u = cc in
-        let third : want ≡ w = cc in
-        subst (λ (x : ℕ). IsDense x u w) first (subst (λ (y : ℕ). IsDense rows y w) second (subst (λ (z : List ℕ). IsDense rows unknowns z) third system));
-  }
 
 -- the question that an answer at a place answers
 record IsAsked {X A : Type 0} (ask : X → Option A) (xs : List X) (k : ℕ) (a : A) : Type 0 where
@@ -276,13 +146,13 @@ zip_length R [] (y ∷ ys) all = absurd all
 zip_length R (x ∷ xs) [] all = absurd all
 zip_length R (x ∷ xs) (y ∷ ys) all = ap suc (zip_length R xs ys all.1)
 
-range_is : (first last : ℕ) → is_range first last ≡ true → (1 ≤ first) × (first ≤ last) × (last ≤ 262144)
-range_is first last e =
+range_is : (number : ℕ) (from : Source) (first last : ℕ) → IsEarlier number from → is_range first last ≡ true → IsSlice number from first last
+range_is number from first last earlier e =
     let two : ((is_position first && is_position last) ≡ true) × (nat_le first last ≡ true) = both _ _ e in
     let one : (is_position first ≡ true) × (is_position last ≡ true) = both _ _ two.0 in
     let start : IsPosition first = position_is first one.0 in
     let end : IsPosition last = position_is last one.1 in
-    (start.first, (let le : first ≤ last = grind (arith, nat_tests, two.1) in le), end.last)
+    record { earlier = earlier; low = start.first; order = (let le : first ≤ last = grind (arith, nat_tests, two.1) in le); high = end.last }
 
 sides_are : (rows cols : ℕ) → are_sides rows cols ≡ true → rows * cols ≤ 262144
 sides_are rows cols e = grind (arith, nat_tests)
@@ -320,13 +190,14 @@ wanted_is unknowns (Numbers numbers) e i within =
     let counted : (1 ≤ slice_index numbers i) × (slice_index numbers i ≤ unknowns) = counted_is (slice_index numbers i) unknowns (list_all-at (λ number. is_counted number unknowns) numbers e i (slice_index numbers i) (slice_get-get_or numbers i 0 within)) in
     (omega (arith, counted.0), omega (arith, counted.1))
 
-system_is : (rows unknowns : ℕ) (want : Want) → is_system rows unknowns want ≡ true → IsWant want → IsDense rows unknowns (wanted unknowns want)
-system_is rows unknowns want e is =
+system_is : (number : ℕ) (from : Source) (rows unknowns : ℕ) (want : Want) → IsEarlier number from → is_system rows unknowns want ≡ true → IsWant want → IsDense number from rows unknowns (wanted unknowns want)
+system_is number from rows unknowns want earlier e is =
     let two : ((is_counted rows 512 && is_counted unknowns 511) ≡ true) × (is_want unknowns want ≡ true) = both _ _ e in
     let one : (is_counted rows 512 ≡ true) × (is_counted unknowns 511 ≡ true) = both _ _ two.0 in
     let height : (1 ≤ rows) × (rows ≤ 512) = counted_is rows 512 one.0 in
     let width : (1 ≤ unknowns) × (unknowns ≤ 511) = counted_is unknowns 511 one.1 in
     record {
+      earlier = earlier;
       rows_low = height.0;
       rows_high = height.1;
       unknowns_low = width.0;
@@ -334,6 +205,9 @@ system_is rows unknowns want e is =
       some = some_wanted unknowns want width.0 is;
       wanted = wanted_is unknowns want two.1;
     }
+
+lists_are : (names lists : List (List ℕ)) (sources : List Source) → all_of (map (source_named names) lists) ≡ Some sources → 1 ≤ length lists → AreLists (length names) sources
+lists_are names lists sources e some = record { earlier = lists_earlier names lists sources e; some = omega (arith, some, length-answers (source_named names) lists sources e) }
 
 -- both lists of a product
 record AreMade (names : List (List ℕ)) (left right : Option Source) (rows mid cols : ℕ) (kind : NodeKind) : Type 0 where
@@ -350,57 +224,97 @@ matmul_made names (Some l) right rows mid cols kind e =
     record { first = l; second = made.from; left_is = refl; right_is = made.there; is = made.is }
 
 -- what a node computes is sound
-pub kind_sound : (names vs : List (List ℕ)) (exprs : List Expr) (name : List ℕ) (statement : Statement) (kind : NodeKind) (most : ℕ) → kind_of names exprs statement ≡ Some kind → IsWhole most statement → is_in_range statement ≡ true → AreTrees (names_in (Listed vs) (line.Node name statement)) (texts_in (line.Node name statement)) exprs → All (λ expr. greatest expr ≤ last_argument (names_in (Listed vs) (line.Node name statement))) exprs → IsKind (length vs) (length names) kind
+pub kind_sound : (names vs : List (List ℕ)) (exprs : List Expr) (name : List ℕ) (statement : Statement) (kind : NodeKind) (most : ℕ) → kind_of names exprs statement ≡ Some kind → IsWhole most statement → is_in_range statement ≡ true → AreTrees (names_in (Listed vs) (line.Node name statement)) (texts_in (line.Node name statement)) exprs → All (λ expr. greatest expr ≤ last_argument (names_in (Listed vs) (line.Node name statement))) exprs → IsBegun (length vs) (length names) kind
 kind_sound names vs exprs name (Eval from texts) kind most e whole ranges trees arguments =
     let made : IsMade (λ f. node.Eval f exprs) (source_named names from) kind = made_of (λ f. node.Eval f exprs) (source_named names from) kind e in
-    subst (IsKind (length vs) (length names)) made.is
-    (eval_sound (length vs) (length names) made.from exprs (named_earlier names from made.from made.there)
-    (let count : length exprs ≡ length texts = zip_length (IsTreeOf (names_over (Listed vs) from)) texts exprs trees in omega (arith, whole.0))
-    (λ input k expr at.
-    let is : bytes_eq from (codes "input") ≡ true = source-input names from (made.there ∙ ap (λ s. Some s) input) in
-    let over : names_over (Listed vs) from ≡ Listed vs = ap (λ b. cond b (Listed vs) Numbered) is in
-    let inside : k < length exprs = slice_get_within exprs k expr at in
-    let bound : greatest (get_or exprs k expr) ≤ last_argument (names_over (Listed vs) from) = arguments k expr inside in
-    let named : last_argument (names_over (Listed vs) from) ≡ length vs = ap last_argument over in
-    let read : greatest (get_or exprs k expr) ≡ greatest expr = ap greatest (get_or_from_slice_get exprs k expr expr at) in
-    omega (arith, bound, named, read)))
+    subst (IsBegun (length vs) (length names)) made.is
+    (record {
+      earlier = named_earlier names from made.from made.there;
+      some = let count : length exprs ≡ length texts = zip_length (IsTreeOf (names_over (Listed vs) from)) texts exprs trees in omega (arith, whole.0);
+      arguments = λ input k expr at.
+          let is : bytes_eq from (codes "input") ≡ true = source-input names from (made.there ∙ ap (λ s. Some s) input) in
+          let over : names_over (Listed vs) from ≡ Listed vs = ap (λ b. cond b (Listed vs) Numbered) is in
+          let inside : k < length exprs = slice_get_within exprs k expr at in
+          let bound : greatest (get_or exprs k expr) ≤ last_argument (names_over (Listed vs) from) = arguments k expr inside in
+          let named : last_argument (names_over (Listed vs) from) ≡ length vs = ap last_argument over in
+          let read : greatest (get_or exprs k expr) ≡ greatest expr = ap greatest (get_or_from_slice_get exprs k expr expr at) in
+          omega (arith, bound, named, read);
+    })
 kind_sound names vs exprs name (Take parts) kind most e whole ranges trees arguments =
     let made : IsMade node.Take (all_of (map (part_named names) parts)) kind = made_of node.Take (all_of (map (part_named names) parts)) kind e in
-    subst (IsKind (length vs) (length names)) made.is
-    (take_sound (length vs) (length names) made.from
-    (λ k part at.
-    let question : IsAsked (part_named names) parts k part = asked (part_named names) parts made.from made.there k part at in
-    part_earlier names question.question part question.answer)
-    (omega (arith, whole, length-answers (part_named names) parts made.from made.there))
-    (λ k part at.
-    let question : IsAsked (part_named names) parts k part = asked (part_named names) parts made.from made.there k part at in
-    let in_range : is_position question.question.1 ≡ true = list_all-at (λ (p : List ℕ × ℕ). is_position p.1) parts ranges k question.question question.there in
-    let same : IsMade (λ list. (list, question.question.1)) (source_named names question.question.0) part = made_of (λ list. (list, question.question.1)) (source_named names question.question.0) part question.answer in
-    subst IsPosition (ap (λ (w : Source × ℕ). w.1) same.is) (position_is question.question.1 in_range)))
+    subst (IsBegun (length vs) (length names)) made.is
+    (record {
+      earlier = λ k part at.
+          let question : IsAsked (part_named names) parts k part = asked (part_named names) parts made.from made.there k part at in
+          part_earlier names question.question part question.answer;
+      some = omega (arith, whole, length-answers (part_named names) parts made.from made.there);
+      positions = λ k part at.
+          let question : IsAsked (part_named names) parts k part = asked (part_named names) parts made.from made.there k part at in
+          let in_range : is_position question.question.1 ≡ true = list_all-at (λ (p : List ℕ × ℕ). is_position p.1) parts ranges k question.question question.there in
+          let same : IsMade (λ list. (list, question.question.1)) (source_named names question.question.0) part = made_of (λ list. (list, question.question.1)) (source_named names question.question.0) part question.answer in
+          subst IsPosition (ap (λ (w : Source × ℕ). w.1) same.is) (position_is question.question.1 in_range);
+    })
 kind_sound names vs exprs name (Slice from first last) kind most e whole ranges trees arguments =
     let made : IsMade (λ f. node.Slice f first last) (source_named names from) kind = made_of (λ f. node.Slice f first last) (source_named names from) kind e in
-    subst (IsKind (length vs) (length names)) made.is
-    (slice_sound (length vs) (length names) made.from first last (named_earlier names from made.from made.there) (range_is first last ranges))
+    subst (IsBegun (length vs) (length names)) made.is (range_is (length names) made.from first last (named_earlier names from made.from made.there) ranges)
 kind_sound names vs exprs name (Chain parts) kind most e whole ranges trees arguments =
     let made : IsMade node.Chain (all_of (map (source_named names) parts)) kind = made_of node.Chain (all_of (map (source_named names) parts)) kind e in
-    subst (IsKind (length vs) (length names)) made.is
-    (chain_sound (length vs) (length names) made.from (lists_earlier names parts made.from made.there) (omega (arith, whole, length-answers (source_named names) parts made.from made.there)))
+    subst (IsBegun (length vs) (length names)) made.is (lists_are names parts made.from made.there whole)
 kind_sound names vs exprs name (Sum parts) kind most e whole ranges trees arguments =
     let made : IsMade node.Sum (all_of (map (source_named names) parts)) kind = made_of node.Sum (all_of (map (source_named names) parts)) kind e in
-    subst (IsKind (length vs) (length names)) made.is
-    (sum_sound (length vs) (length names) made.from (lists_earlier names parts made.from made.there) (omega (arith, whole, length-answers (source_named names) parts made.from made.there)))
+    subst (IsBegun (length vs) (length names)) made.is (lists_are names parts made.from made.there whole)
 kind_sound names vs exprs name (Product parts) kind most e whole ranges trees arguments =
     let made : IsMade node.Product (all_of (map (source_named names) parts)) kind = made_of node.Product (all_of (map (source_named names) parts)) kind e in
-    subst (IsKind (length vs) (length names)) made.is
-    (product_sound (length vs) (length names) made.from (lists_earlier names parts made.from made.there) (omega (arith, whole, length-answers (source_named names) parts made.from made.there)))
+    subst (IsBegun (length vs) (length names)) made.is (lists_are names parts made.from made.there whole)
 kind_sound names vs exprs name (Matmul left right rows mid cols) kind most e whole ranges trees arguments =
     let made : AreMade names (source_named names left) (source_named names right) rows mid cols kind = matmul_made names (source_named names left) (source_named names right) rows mid cols kind e in
-    subst (IsKind (length vs) (length names)) made.is
-    (matmul_sound (length vs) (length names) made.first made.second rows mid cols (named_earlier names left made.first made.left_is) (named_earlier names right made.second made.right_is) (product_is rows mid cols ranges))
+    subst (IsBegun (length vs) (length names)) made.is
+    (record { first = named_earlier names left made.first made.left_is; second = named_earlier names right made.second made.right_is; sides = product_is rows mid cols ranges })
 kind_sound names vs exprs name (Dense from rows unknowns want) kind most e whole ranges trees arguments =
     let made : IsMade (λ f. node.Dense f rows unknowns (wanted unknowns want)) (source_named names from) kind = made_of (λ f. node.Dense f rows unknowns (wanted unknowns want)) (source_named names from) kind e in
-    subst (IsKind (length vs) (length names)) made.is
-    (dense_sound (length vs) (length names) made.from rows unknowns (wanted unknowns want) (named_earlier names from made.from made.there) (system_is rows unknowns want ranges whole))
+    subst (IsBegun (length vs) (length names)) made.is
+    (system_is (length names) made.from rows unknowns want (named_earlier names from made.from made.there) ranges whole)
+kind_sound names vs exprs name (Sparse from unknowns want) kind most e whole ranges trees arguments =
+    let made : IsMade (λ f. node.Sparse f unknowns (wanted unknowns want) []) (source_named names from) kind = made_of (λ f. node.Sparse f unknowns (wanted unknowns want) []) (source_named names from) kind e in
+    let parts : (is_counted unknowns 4096 ≡ true) × (is_want unknowns want ≡ true) = both _ _ ranges in
+    let width : (1 ≤ unknowns) × (unknowns ≤ 4096) = counted_is unknowns 4096 parts.0 in
+    subst (IsBegun (length vs) (length names)) made.is (
+      width.1,
+      λ given few. record {
+        earlier = named_earlier names from made.from made.there;
+        unknowns_low = width.0;
+        unknowns_high = width.1;
+        some = some_wanted unknowns want width.0 whole;
+        wanted = wanted_is unknowns want parts.1;
+        filled = few;
+      },
+    )
+
+-- what a node's line says of what it computes
+pub record IsOf (statement : Statement) (kind : NodeKind) : Type 0 where
+  pub no_rows : HasNoRows kind
+  pub stood : kind_stood kind ≡ node_stood statement
+  pub unknowns : kind_unknowns kind ≡ unknowns_of statement
+
+pub kind_is_of : (names : List (List ℕ)) (exprs : List Expr) (statement : Statement) (kind : NodeKind) → kind_of names exprs statement ≡ Some kind → IsOf statement kind
+kind_is_of names exprs (Eval from texts) kind e =
+    subst (IsOf (Eval from texts)) (made_of (λ f. node.Eval f exprs) (source_named names from) kind e).is (record { no_rows = tt; stood = refl; unknowns = refl })
+kind_is_of names exprs (Take parts) kind e =
+    subst (IsOf (Take parts)) (made_of node.Take (all_of (map (part_named names) parts)) kind e).is (record { no_rows = tt; stood = refl; unknowns = refl })
+kind_is_of names exprs (Slice from first last) kind e =
+    subst (IsOf (Slice from first last)) (made_of (λ f. node.Slice f first last) (source_named names from) kind e).is (record { no_rows = tt; stood = refl; unknowns = refl })
+kind_is_of names exprs (Chain parts) kind e =
+    subst (IsOf (Chain parts)) (made_of node.Chain (all_of (map (source_named names) parts)) kind e).is (record { no_rows = tt; stood = refl; unknowns = refl })
+kind_is_of names exprs (Sum parts) kind e =
+    subst (IsOf (Sum parts)) (made_of node.Sum (all_of (map (source_named names) parts)) kind e).is (record { no_rows = tt; stood = refl; unknowns = refl })
+kind_is_of names exprs (Product parts) kind e =
+    subst (IsOf (Product parts)) (made_of node.Product (all_of (map (source_named names) parts)) kind e).is (record { no_rows = tt; stood = refl; unknowns = refl })
+kind_is_of names exprs (Matmul left right rows mid cols) kind e =
+    subst (IsOf (Matmul left right rows mid cols)) (matmul_made names (source_named names left) (source_named names right) rows mid cols kind e).is (record { no_rows = tt; stood = refl; unknowns = refl })
+kind_is_of names exprs (Dense from rows unknowns want) kind e =
+    subst (IsOf (Dense from rows unknowns want)) (made_of (λ f. node.Dense f rows unknowns (wanted unknowns want)) (source_named names from) kind e).is (record { no_rows = tt; stood = refl; unknowns = refl })
+kind_is_of names exprs (Sparse from unknowns want) kind e =
+    subst (IsOf (Sparse from unknowns want)) (made_of (λ f. node.Sparse f unknowns (wanted unknowns want) []) (source_named names from) kind e).is (record { no_rows = refl; stood = refl; unknowns = refl })
 
 -- known lists have their nodes
 option_none : {A B : Type 0} (make : A → B) (o : Option A) → option_map make o ≡ None → o ≡ None
@@ -455,3 +369,4 @@ kind-there names exprs (Matmul left right rows mid cols) known none =
     let two : (is_known names left ≡ true) × ((is_known names right && true) ≡ true) = both (is_known names left) _ known in
     matmul_none (source_named names left) (source_named names right) rows mid cols none (source-known names left two.0) (source-known names right (both (is_known names right) true two.1).0)
 kind-there names exprs (Dense from rows unknowns want) known none = source-known names from (both _ true known).0 (option_none _ (source_named names from) none)
+kind-there names exprs (Sparse from unknowns want) known none = source-known names from (both _ true known).0 (option_none _ (source_named names from) none)

@@ -9,6 +9,8 @@ mod TableLemmas
 mod SoundLemmas
 mod Passes
 mod KindLemmas
+mod Less
+pub mod KindFacts
 mod TakeLemmas
 mod FileLemmas
 mod JobLemmas

@@ -17,6 +17,7 @@ use Rattle.graph_file.specs.declared.graph.Graph.{Graph}
 use Rattle.graph_file.specs.declared.graph.Node.{Node}
 use Rattle.graph_file.specs.declared.graph.NodeKind.{NodeKind}
 use Rattle.graph_file.specs.declared.graph.Source.{Source}
+use Rattle.graph_file.specs.declared.job.Need.{Need}
 use Rattle.graph_file.specs.declared.line.Line.{Line}
 use Rattle.graph_file.specs.declared.line.Line.TheVariants as line
 use Rattle.graph_file.specs.declared.line.Statement.{Statement}
@@ -25,7 +26,7 @@ use Rattle.graph_file.specs.File.{IsBadAt, IsCutOff, IsFirstBad, IsFirstBadLine,
 use Rattle.graph_file.specs.Line.{line_of, texts_in}
 use Rattle.graph_file.specs.Lines.{lines}
 use Rattle.graph_file.specs.Needed.{IsNeededFor, kinds_of}
-use Rattle.graph_file.specs.Says.{AreKinds, AreTrees, FileForm, IsKindOf, Says, SaysGraph, kind_of, names_of}
+use Rattle.graph_file.specs.Says.{AreKinds, AreTrees, FileForm, IsKindOf, Says, SaysGraph, kind_of, last_with_row, names_of}
 
 -- two places are one, or one stands before the other
 compare_places : (i j : ℕ) → (i ≡ j) ⊎ ((i < j) ⊎ (j < i))
@@ -66,7 +67,6 @@ unfolding View
 view earlier o kind.Syntax bad = inl bad
 view earlier o kind.Version bad = inl bad
 view earlier o kind.Repeated bad = inl bad
-view earlier o kind.UnknownGraph bad = inl bad
 view earlier o kind.UnknownNode bad = inl bad
 view earlier o kind.Residue bad = inl bad
 view earlier o kind.Limit bad = inl bad
@@ -118,17 +118,16 @@ record IsEnd (all : List (List ℕ)) (number : ℕ) (told : FileKind) : Type 0 w
   is : told ≡ kind.Missing
   cut : IsCutOff all number
 
-told_view : (all : List (List ℕ)) (number : ℕ) (told : FileKind) → IsTold all number told → IsFirstBadLine all number told ⊎ IsEnd all number told
-told_view all number kind.Syntax told = inl told
-told_view all number kind.Version told = inl told
-told_view all number kind.Repeated told = inl told
-told_view all number kind.UnknownGraph told = inl told
-told_view all number kind.UnknownNode told = inl told
-told_view all number kind.Residue told = inl told
-told_view all number kind.Limit told = inl told
-told_view all number (kind.Expr expression error) told = inl told
-told_view all number kind.Missing told = inr (record { is = refl; cut = told })
-told_view all number kind.NoMemory told = inl told
+told_view : (need : Need) (all : List (List ℕ)) (number : ℕ) (told : FileKind) → IsTold need all number told → IsFirstBadLine all number told ⊎ IsEnd all number told
+told_view need all number kind.Syntax told = inl told
+told_view need all number kind.Version told = inl told
+told_view need all number kind.Repeated told = inl told
+told_view need all number kind.UnknownNode told = inl told
+told_view need all number kind.Residue told = inl told
+told_view need all number kind.Limit told = inl told
+told_view need all number (kind.Expr expression error) told = inl told
+told_view need all number kind.Missing told = inr (record { is = refl; cut = told })
+told_view need all number kind.NoMemory told = inl told
 
 first_later : (all : List (List ℕ)) (m n : ℕ) (k l : FileKind) → (a : IsFirstBadLine all m k) → (b : IsFirstBadLine all n l) → a.place < b.place → ⊥
 first_later all m n k l a b before = good_or_bad_at all a.place k (b.before a.place before) a.bad
@@ -142,25 +141,25 @@ same_first all m n k l a b = ⊎_elim
 bad_in_good : (all : List (List ℕ)) (n : ℕ) (k : FileKind) → IsFirstBadLine all n k → ((place : ℕ) → place < length all → IsGoodAt all place) → ⊥
 bad_in_good all n k bad good = good_or_bad_at all bad.place k (good bad.place (slice_get_within all bad.place bad.bad.line bad.bad.there)) bad.bad
 
-pub one-told : (bytes : List ℕ) (m n : ℕ) (k l : FileKind) → IsFirstBad bytes m k → IsFirstBad bytes n l → (m ≡ n) × (k ≡ l)
-one-told bytes m n k l a b =
+pub one-told : (need : Need) (bytes : List ℕ) (m n : ℕ) (k l : FileKind) → IsFirstBad need bytes m k → IsFirstBad need bytes n l → (m ≡ n) × (k ≡ l)
+one-told need bytes m n k l a b =
     let all : List (List ℕ) = lines bytes in
     ⊎_elim
     (λ (first : IsFirstBadLine all m k). ⊎_elim
     (λ (second : IsFirstBadLine all n l). same_first all m n k l first second)
     (λ (second : IsEnd all n l). absurd (bad_in_good all m k first second.cut.good))
-    (told_view all n l b))
+    (told_view need all n l b))
     (λ (first : IsEnd all m k). ⊎_elim
     (λ (second : IsFirstBadLine all n l). absurd (bad_in_good all n l second first.cut.good))
     (λ (second : IsEnd all n l). (first.cut.counted ∙ sym second.cut.counted, first.is ∙ sym second.is))
-    (told_view all n l b))
-    (told_view all m k a)
+    (told_view need all n l b))
+    (told_view need all m k a)
 
-pub none-told : (bytes : List ℕ) (n : ℕ) (k : FileKind) → IsGoodFile bytes → IsFirstBad bytes n k → ⊥
-none-told bytes n k good bad = ⊎_elim
+pub none-told : (need : Need) (bytes : List ℕ) (n : ℕ) (k : FileKind) → IsGoodFile need bytes → IsFirstBad need bytes n k → ⊥
+none-told need bytes n k good bad = ⊎_elim
     (λ (first : IsFirstBadLine (lines bytes) n k). bad_in_good (lines bytes) n k first good.good)
     (λ (first : IsEnd (lines bytes) n k). let never : true ≡ false = sym good.ended ∙ first.cut.ended in cc)
-    (told_view (lines bytes) n k bad)
+    (told_view need (lines bytes) n k bad)
 
 -- one list of trees for a list of texts
 same_trees : (names : Names) (texts : List (List ℕ)) (a b : List Expr) → AreTrees names texts a → AreTrees names texts b → a ≡ b
@@ -181,13 +180,14 @@ same_kind earlier name statement a b x y =
 same_kinds : (earlier : List Line) (a b : List NodeKind) → AreKinds earlier a → AreKinds earlier b → a ≡ b
 same_kinds [] a b x y = x ∙ sym y
 same_kinds (line.Flow version ∷ before) a b x y = same_kinds before a b x y
-same_kinds (line.Graph name ∷ before) a b x y = same_kinds before a b x y
+same_kinds (line.Graph name ∷ before) a b x y = x ∙ sym y
 same_kinds (line.Input names ∷ before) a b x y = same_kinds before a b x y
 same_kinds (line.Node name statement ∷ before) a b x y =
     x.1.1.0
     ∙ ap (λ (l : List NodeKind). l ++ x.1.0 ∷ []) (same_kinds before x.0 y.0 x.1.1.1 y.1.1.1)
     ∙ ap (λ (k : NodeKind). y.0 ++ k ∷ []) (same_kind before name statement x.1.0 y.1.0 x.1.1.2 y.1.1.2)
     ∙ sym y.1.1.0
+same_kinds (line.Row columns ∷ before) a b x y = x.1.0 ∙ ap (last_with_row (record { columns = columns })) (same_kinds before x.0 y.0 x.1.1 y.1.1) ∙ sym y.1.0
 same_kinds (line.Output list ∷ before) a b x y = same_kinds before a b x y
 same_kinds (line.Point entries ∷ before) a b x y = same_kinds before a b x y
 
@@ -227,8 +227,8 @@ same_graph all a b x y =
     let make : List ℕ → List (List ℕ) → List Node → Source → Graph = λ n i m o. record { name = n; inputs = i; nodes = m; output = o } in
     ap (λ n. make n a.inputs a.nodes a.output) name ∙ ap (λ i. make b.name i a.nodes a.output) (x.inputs ∙ sym y.inputs) ∙ ap (λ m. make b.name b.inputs m a.output) nodes ∙ ap (make b.name b.inputs b.nodes) output
 
-pub one-form : (bytes : List ℕ) (f g : FileForm) → Says bytes f → Says bytes g → f ≡ g
-one-form bytes f g x y =
+pub one-form : (need : Need) (bytes : List ℕ) (f g : FileForm) → Says need bytes f → Says need bytes g → f ≡ g
+one-form need bytes f g x y =
     let graphs : f.graphs ≡ g.graphs = x.only ∙ ap (λ (a : Graph). a ∷ []) (same_graph (said (lines bytes)) x.graph y.graph x.says_graph y.says_graph) ∙ sym y.only in
     let make : List Graph → List (List ℕ) → FileForm = λ gs ps. record { graphs = gs; points = ps } in
     ap (λ gs. make gs f.points) graphs ∙ ap (make g.graphs) (x.points_are ∙ sym y.points_are)

@@ -1,5 +1,5 @@
 -- What holds of a line with which nothing is wrong, its expressions apart.
-use Rattle.std.proofs.Common.{◌≡◌, ◌<◌, ◌≤◌, ℕ, zero, suc, Bool, true, false, not, ◌&&◌, ◌||◌, cond, refl, sym, ap, subst, List, [], ◌∷◌, ◌++◌, length, Option, Some, None, arith, bytes_eq, nat_le, nat_lt, ◌==◌}
+use Rattle.std.proofs.Common.{◌≡◌, ◌<◌, ◌≤◌, ◌+◌, ◌-◌, ◌^◌, ℕ, zero, suc, Bool, true, false, not, ◌&&◌, ◌||◌, cond, refl, sym, ap, subst, List, [], ◌∷◌, ◌++◌, length, Option, Some, None, arith, bytes_eq, nat_le, nat_lt, ◌==◌}
 use Rattle.std.specs.List.{slice_get, slice_index, list_any, list_all}
 use Rattle.std.proofs.lemmas.Bool.Decides.{nat_tests}
 use Rattle.std.proofs.lemmas.Option.{slice_get-get_or}
@@ -10,12 +10,15 @@ use Rattle.graph_file.specs.declared.error.FileKind.TheVariants.{Syntax, Version
 use Rattle.graph_file.specs.declared.line.Last.{Last}
 use Rattle.graph_file.specs.declared.line.Last.TheVariants as last
 use Rattle.graph_file.specs.declared.line.Line.{Line}
-use Rattle.graph_file.specs.declared.line.Line.TheVariants.{Flow, Graph, Input, Node, Output, Point}
+use Rattle.graph_file.specs.declared.line.Line.TheVariants.{Flow, Graph, Input, Node, Row, Output, Point}
 use Rattle.graph_file.specs.declared.line.Statement.{Statement}
-use Rattle.graph_file.specs.Faults.{are_new, fault_after, fits, is_entry, is_limit, is_repeated, is_residue, is_short, is_syntax, is_unknown_node, is_version, may_stand}
+use Rattle.graph_file.specs.Faults.{Known, are_columns, are_new, fault_after, fits, is_entry, is_limit, is_repeated, is_residue, is_short, is_syntax, is_unknown_node, is_version, may_stand}
 use Rattle.graph_file.specs.File.{has_output}
 use Rattle.poly_maps.specs.Point.{IsPoint}
-use Rattle.graph_file.specs.Reader.{AreVariables, has_input, has_name}
+use Rattle.elim_core.specs.Solver.{IsAscending}
+use Rattle.elim_core.specs.Sparse.{IsSparseRow}
+use Rattle.graph_file.specs.Formed.{Ascend}
+use Rattle.graph_file.specs.Reader.{AreVariables, has_input, has_name, has_rows}
 
 pub both : (a b : Bool) → (a && b) ≡ true → (a ≡ true) × (b ≡ true)
 both true b e = (refl, e)
@@ -34,30 +37,30 @@ next true kind later e = cc
 next false kind later e = (refl, e)
 
 -- each test is passed
-pub record Passes (stood : Last) (variables : ℕ) (nodes : List (List ℕ)) (points : ℕ) (line : Line) : Type 0 where
-  pub stands : may_stand stood line ≡ true
-  pub fitting : fits variables line ≡ true
+pub record Passes (known : Known) (line : Line) : Type 0 where
+  pub stands : may_stand known.stood line ≡ true
+  pub fitting : fits known line ≡ true
   pub first : is_version line ≡ false
-  pub is_new : is_repeated nodes line ≡ false
-  pub known : is_unknown_node nodes line ≡ false
+  pub is_new : is_repeated known line ≡ false
+  pub lists : is_unknown_node known line ≡ false
   pub residues : is_residue line ≡ false
-  pub limits : is_limit (length nodes) points line ≡ false
+  pub limits : is_limit known line ≡ false
 
-pub passes : (stood : Last) (variables : ℕ) (nodes : List (List ℕ)) (points : ℕ) (line : Line) → fault_after stood variables nodes points line ≡ None → Passes stood variables nodes points line
-passes stood variables nodes points line e =
-    let (syntax, after_syntax) = next (is_syntax stood variables line) Syntax _ e in
+pub passes : (known : Known) (line : Line) → fault_after known line ≡ None → Passes known line
+passes known line e =
+    let (syntax, after_syntax) = next (is_syntax known line) Syntax _ e in
     let (version, after_version) = next (is_version line) Version _ after_syntax in
-    let (repeated, after_repeated) = next (is_repeated nodes line) Repeated _ after_version in
-    let (unknown, after_unknown) = next (is_unknown_node nodes line) UnknownNode _ after_repeated in
+    let (repeated, after_repeated) = next (is_repeated known line) Repeated _ after_version in
+    let (unknown, after_unknown) = next (is_unknown_node known line) UnknownNode _ after_repeated in
     let (residue, after_residue) = next (is_residue line) Residue _ after_unknown in
-    let (limit, _) = next (is_limit (length nodes) points line) Limit None after_residue in
-    let parts : (not (may_stand stood line) ≡ false) × (not (fits variables line) ≡ false) = neither _ _ syntax in
+    let (limit, _) = next (is_limit known line) Limit None after_residue in
+    let parts : (not (may_stand known.stood line) ≡ false) × (not (fits known line) ≡ false) = neither _ _ syntax in
     record {
       stands = not_false _ parts.0;
       fitting = not_false _ parts.1;
       first = version;
       is_new = repeated;
-      known = unknown;
+      lists = unknown;
       residues = residue;
       limits = limit;
     }
@@ -69,6 +72,8 @@ stands-flow last.Flow version e = refl
 stands-flow last.Graph version e = refl
 stands-flow last.Input version e = cc
 stands-flow last.Node version e = cc
+stands-flow last.Sparse version e = cc
+stands-flow last.Row version e = cc
 stands-flow last.Output version e = cc
 stands-flow last.Point version e = cc
 
@@ -78,6 +83,8 @@ stands-graph last.Flow name e = refl
 stands-graph last.Graph name e = refl
 stands-graph last.Input name e = cc
 stands-graph last.Node name e = cc
+stands-graph last.Sparse name e = cc
+stands-graph last.Row name e = cc
 stands-graph last.Output name e = cc
 stands-graph last.Point name e = cc
 
@@ -87,6 +94,8 @@ stands-input last.Flow names e = cc
 stands-input last.Graph names e = (refl, refl)
 stands-input last.Input names e = cc
 stands-input last.Node names e = cc
+stands-input last.Sparse names e = cc
+stands-input last.Row names e = cc
 stands-input last.Output names e = cc
 stands-input last.Point names e = cc
 
@@ -96,8 +105,28 @@ stands-node last.Flow name statement e = cc
 stands-node last.Graph name statement e = cc
 stands-node last.Input name statement e = refl
 stands-node last.Node name statement e = refl
+stands-node last.Sparse name statement e = cc
+stands-node last.Row name statement e = refl
 stands-node last.Output name statement e = cc
 stands-node last.Point name statement e = cc
+
+pub stands-row : (stood : Last) (columns : List ℕ) → may_stand stood (Row columns) ≡ true → has_rows stood ≡ true
+stands-row last.Start columns e = cc
+stands-row last.Flow columns e = cc
+stands-row last.Graph columns e = cc
+stands-row last.Input columns e = cc
+stands-row last.Node columns e = cc
+stands-row last.Sparse columns e = refl
+stands-row last.Row columns e = refl
+stands-row last.Output columns e = cc
+stands-row last.Point columns e = cc
+
+-- behind a sparse node without rows no node and no output stand
+pub whole-node : (stood : Last) (name : List ℕ) (statement : Statement) → may_stand stood (Node name statement) ≡ true → stood ≡ last.Sparse → ⊥
+whole-node stood name statement e is = let told : may_stand last.Sparse (Node name statement) ≡ true = subst (λ (s : Last). may_stand s (Node name statement) ≡ true) is e in cc
+
+pub whole-output : (stood : Last) (list : List ℕ) → may_stand stood (Output list) ≡ true → stood ≡ last.Sparse → ⊥
+whole-output stood list e is = let told : may_stand last.Sparse (Output list) ≡ true = subst (λ (s : Last). may_stand s (Output list) ≡ true) is e in cc
 
 pub stands-output : (stood : Last) (list : List ℕ) → may_stand stood (Output list) ≡ true → has_input stood ≡ true
 stands-output last.Start list e = cc
@@ -105,6 +134,8 @@ stands-output last.Flow list e = cc
 stands-output last.Graph list e = cc
 stands-output last.Input list e = refl
 stands-output last.Node list e = refl
+stands-output last.Sparse list e = cc
+stands-output last.Row list e = refl
 stands-output last.Output list e = cc
 stands-output last.Point list e = cc
 
@@ -114,6 +145,8 @@ stands-point last.Flow entries e = cc
 stands-point last.Graph entries e = cc
 stands-point last.Input entries e = cc
 stands-point last.Node entries e = cc
+stands-point last.Sparse entries e = cc
+stands-point last.Row entries e = cc
 stands-point last.Output entries e = refl
 stands-point last.Point entries e = refl
 
@@ -185,16 +218,16 @@ pub at_most_32 : (name : List ℕ) → is_short name ≡ true → length name �
 at_most_32 name short = let within : nat_le (length name) 32 ≡ true = short in grind (arith, nat_tests)
 
 -- the name of a `graph` line is short
-pub graph-passed : (stood : Last) (variables : ℕ) (nodes : List (List ℕ)) (points : ℕ) (name : List ℕ) → Passes stood variables nodes points (Graph name) → length name ≤ 32
-graph-passed stood variables nodes points name pass = at_most_32 name (not_false _ pass.limits)
+pub graph-passed : (known : Known) (name : List ℕ) → Passes known (Graph name) → length name ≤ 32
+graph-passed known name pass = at_most_32 name (not_false _ pass.limits)
 
 -- there is room for the point of a `point` line
-pub room-passed : (stood : Last) (variables : ℕ) (nodes : List (List ℕ)) (points : ℕ) (entries : List ℕ) → Passes stood variables nodes points (Point entries) → points < 65536
-room-passed stood variables nodes points entries pass = let within : nat_lt points 65536 ≡ true = not_false _ pass.limits in grind (arith, nat_tests)
+pub room-passed : (known : Known) (entries : List ℕ) → Passes known (Point entries) → known.points < 65536
+room-passed known entries pass = let within : nat_lt known.points 65536 ≡ true = not_false _ pass.limits in grind (arith, nat_tests)
 
 -- the names of an `input` line are variables
-pub variables-passed : (stood : Last) (variables : ℕ) (nodes : List (List ℕ)) (points : ℕ) (names : List (List ℕ)) → Passes stood variables nodes points (Input names) → list_all is_name names ≡ true → 1 ≤ length names → AreVariables names
-variables-passed stood variables nodes points names pass are some =
+pub variables-passed : (known : Known) (names : List (List ℕ)) → Passes known (Input names) → list_all is_name names ≡ true → 1 ≤ length names → AreVariables names
+variables-passed known names pass are some =
     let limits : (list_all is_short names && nat_le (length names) 8) ≡ true = not_false _ pass.limits in
     let count : nat_le (length names) 8 ≡ true = (both _ _ limits).1 in
     record {
@@ -208,10 +241,10 @@ variables-passed stood variables nodes points names pass are some =
     }
 
 -- the entries of a `point` line are those of a point
-pub point-passed : (stood : Last) (variables : ℕ) (nodes : List (List ℕ)) (points : ℕ) (entries : List ℕ) → Passes stood variables nodes points (Point entries) → (1 ≤ variables) × (variables ≤ 8) → (length entries ≡ variables) × IsPoint entries
-point-passed stood variables nodes points entries pass within =
-    let count : (length entries == variables) ≡ true = pass.fitting in
-    let same : length entries ≡ variables = grind (arith, nat_tests) in
+pub point-passed : (known : Known) (entries : List ℕ) → Passes known (Point entries) → (1 ≤ known.variables) × (known.variables ≤ 8) → (length entries ≡ known.variables) × IsPoint entries
+point-passed known entries pass within =
+    let count : (length entries == known.variables) ≡ true = pass.fitting in
+    let same : length entries ≡ known.variables = grind (arith, nat_tests) in
     let residues : list_all is_entry entries ≡ true = not_false _ pass.residues in (
       same,
       record {
@@ -219,4 +252,37 @@ point-passed stood variables nodes points entries pass within =
         few = omega (arith, within.1);
         below = λ k inside. let below : is_entry (slice_index entries k) ≡ true = list_all-at is_entry entries residues k (slice_index entries k) (slice_get-get_or entries k 0 inside) in grind (arith, nat_tests);
       },
+    )
+
+-- columns that ascend below a limit
+below_each : (most m : ℕ) (later : List ℕ) → most < 2 ^ 32 - 1 → are_columns most later ≡ true → Ascend (m ∷ later) → (j : ℕ) → j < length later → m < slice_index later j
+below_each most m [] small within ascend j inside = absurd (omega arith)
+below_each most m (n ∷ later) small within ascend j inside =
+    let head : nat_le n most ≡ true = (both _ (are_columns most later) within).0 in
+    let under : n ≤ most = grind (arith, nat_tests, head) in
+    let least : m < n = ascend.0 (omega (arith, under, small)) in
+    from (below_each most n later small (both _ (are_columns most later) within).1 ascend.1) j inside least
+  where
+    from : ((i : ℕ) → i < length later → n < slice_index later i) → (j : ℕ) → j < length (n ∷ later) → m < n → m < slice_index (n ∷ later) j
+    from above zero inside least = least
+    from above (suc j) inside least = let later_below : n < slice_index later j = above j (omega (arith, inside)) in omega (arith, least, later_below)
+
+ascending_from : (most : ℕ) (columns : List ℕ) → most < 2 ^ 32 - 1 → are_columns most columns ≡ true → Ascend columns → IsAscending columns
+ascending_from most [] small within ascend i j order inside = absurd (omega arith)
+ascending_from most (m ∷ []) small within ascend i j order inside = absurd (omega arith)
+ascending_from most (m ∷ n ∷ later) small within ascend zero zero order inside = absurd (omega arith)
+ascending_from most (m ∷ n ∷ later) small within ascend zero (suc j) order inside = below_each most m (n ∷ later) small (both _ (are_columns most (n ∷ later)) within).1 ascend j (omega arith)
+ascending_from most (m ∷ n ∷ later) small within ascend (suc i) zero order inside = absurd (omega arith)
+ascending_from most (m ∷ n ∷ later) small within ascend (suc i) (suc j) order inside = ascending_from most (n ∷ later) small (both _ (are_columns most (n ∷ later)) within).1 ascend.1 i j (omega arith) (omega arith)
+
+-- the columns of a `row` line are those of a row, and there is room for them
+pub row-passed : (known : Known) (columns : List ℕ) → Passes known (Row columns) → known.unknowns ≤ 4096 → Ascend columns → IsSparseRow known.unknowns (record { columns = columns }) × (known.entries + length columns ≤ 65536)
+row-passed known columns pass small ascend =
+    let parts : (are_columns known.unknowns columns ≡ true) × (nat_le (known.entries + length columns) 65536 ≡ true) = both _ _ (not_false _ pass.limits) in
+    let room : nat_le (known.entries + length columns) 65536 ≡ true = parts.1 in (
+      record {
+        ascending = ascending_from known.unknowns columns (omega arith) parts.0 ascend;
+        within = λ i inside. let below : nat_le (slice_index columns i) known.unknowns ≡ true = list_all-at (λ column. nat_le column known.unknowns) columns parts.0 i (slice_index columns i) (slice_get-get_or columns i 0 inside) in grind (arith, nat_tests);
+      },
+      grind (arith, nat_tests, room),
     )

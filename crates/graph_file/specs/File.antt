@@ -3,6 +3,7 @@ use Rattle.std.specs.Prelude.{ℕ, ◌≡◌, ◌+◌, ◌<◌, Bool, true, fals
 use Rattle.graph_file.specs.declared.error.FileError.{FileError}
 use Rattle.graph_file.specs.declared.error.FileKind.{FileKind}
 use Rattle.graph_file.specs.declared.error.FileKind.TheVariants.{Missing, NoMemory}
+use Rattle.graph_file.specs.declared.job.Need.{Need}
 use Rattle.graph_file.specs.declared.line.Last.{Last}
 use Rattle.graph_file.specs.declared.line.Last.TheVariants as last
 use Rattle.graph_file.specs.declared.line.Line.{Line}
@@ -40,6 +41,8 @@ has_output last.Flow = false
 has_output last.Graph = false
 has_output last.Input = false
 has_output last.Node = false
+has_output last.Sparse = false
+has_output last.Row = false
 has_output last.Output = true
 has_output last.Point = true
 
@@ -56,17 +59,17 @@ pub record IsCutOff (all : List (List ℕ)) (number : ℕ) : Type 0 where
   pub good : AreGood all (length all)
   pub ended : has_output (last_of (said all)) ≡ false
 
--- what is told of the lines of a file
-abbrev pub IsTold : List (List ℕ) → ℕ → FileKind → Type 0
-IsTold all number Missing = IsCutOff all number
-IsTold all number kind = IsFirstBadLine all number kind
+-- what is told of the lines of a file that is read for this
+abbrev pub IsTold : Need → List (List ℕ) → ℕ → FileKind → Type 0
+IsTold need all number Missing = IsCutOff all number
+IsTold need all number kind = IsFirstBadLine all number kind
 
--- this is told of a file, with the number of a line, counted from 1
-abbrev pub IsFirstBad : List ℕ → ℕ → FileKind → Type 0
-IsFirstBad bytes number kind = IsTold (lines bytes) number kind
+-- this is told of a file that is read for this, with the number of a line, counted from 1
+abbrev pub IsFirstBad : Need → List ℕ → ℕ → FileKind → Type 0
+IsFirstBad need bytes number kind = IsTold need (lines bytes) number kind
 
--- nothing is wrong with a file
-pub record IsGoodFile (bytes : List ℕ) : Type 0 where
+-- nothing is wrong with a file that is read for this
+pub record IsGoodFile (need : Need) (bytes : List ℕ) : Type 0 where
   pub good : AreGood (lines bytes) (length (lines bytes))
   pub ended : has_output (last_of (said (lines bytes))) ≡ true
 

@@ -1,4 +1,5 @@
 pub mod Cut
+pub mod Digits
 pub mod Faults
 pub mod File
 pub mod Formed
@@ -7,8 +8,10 @@ pub mod Lines
 pub mod Marks
 pub mod Needed
 pub mod Parsed
+pub mod Props
 pub mod Read
 pub mod Reader
+pub mod ReaderProps
 pub mod Says
 pub mod Sound
 pub mod Table

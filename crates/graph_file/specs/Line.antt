@@ -1,12 +1,12 @@
 -- What the words of a line say: a pattern for each kind of line. A line that fits no pattern says nothing.
-use Rattle.std.specs.Prelude.{ℕ, ◌-◌, ◌^◌, min, ◌==◌, if◌then◌else◌, List, [], ◌∷◌, map, Option, Some, None, option_and_then, option_map, bytes_eq, codes}
+use Rattle.std.specs.Prelude.{ℕ, ◌-◌, ◌^◌, min, ◌==◌, Bool, true, false, ◌&&◌, nat_lt, if◌then◌else◌, List, [], ◌∷◌, map, Option, Some, None, option_and_then, option_map, bytes_eq, codes}
 use Rattle.std.specs.List.{slice_split, list_all}
 use Rattle.ratfun_text.specs.Bytes.{is_name, number_of}
 use Rattle.graph_file.specs.Lines.{is_plain, words, after_words}
 use Rattle.graph_file.specs.declared.line.Line.{Line}
-use Rattle.graph_file.specs.declared.line.Line.TheVariants.{Flow, Graph, Input, Node, Output, Point}
+use Rattle.graph_file.specs.declared.line.Line.TheVariants.{Flow, Graph, Input, Node, Row, Output, Point}
 use Rattle.graph_file.specs.declared.line.Statement.{Statement}
-use Rattle.graph_file.specs.declared.line.Statement.TheVariants.{Eval, Take, Slice, Chain, Sum, Product, Matmul, Dense}
+use Rattle.graph_file.specs.declared.line.Statement.TheVariants.{Eval, Take, Slice, Chain, Sum, Product, Matmul, Dense, Sparse}
 use Rattle.graph_file.specs.declared.line.Want.{Want}
 use Rattle.graph_file.specs.declared.line.Want.TheVariants.{Every, Numbers}
 
@@ -48,6 +48,22 @@ output_line _ = None
 abbrev pub point_line : List (List ℕ) → Option Line
 point_line [] = None
 point_line (entry ∷ entries) = option_map Point (all_of (map entry_of (entry ∷ entries)))
+
+-- both are numbers, and the first is less
+abbrev pub are_less : Option ℕ → Option ℕ → Bool
+are_less (Some first) (Some second) = nat_lt first second
+are_less _ _ = false
+
+-- each of the words but the first writes a greater number than the word before it
+abbrev pub are_ascending : List (List ℕ) → Bool
+are_ascending [] = true
+are_ascending (word ∷ []) = true
+are_ascending (word ∷ next ∷ later) = are_less (number_of word) (number_of next) && are_ascending (next ∷ later)
+
+-- `row NUM ..`, the numbers ascending
+abbrev pub row_line : List (List ℕ) → Option Line
+row_line [] = None
+row_line (column ∷ columns) = if are_ascending (column ∷ columns) then option_map Row (all_of (map size_of (column ∷ columns))) else None
 
 -- `eval LIST = EXPR ; ..`: the expressions are what follows the line's fifth word, `=`, cut at each `;`
 abbrev pub eval_node : List ℕ → List (List ℕ) → Option Statement
@@ -123,6 +139,14 @@ abbrev pub dense_node : List (List ℕ) → Option Statement
 dense_node (from ∷ rows ∷ unknowns ∷ later) = dense_from from (size_of rows) (size_of unknowns) (want_of later)
 dense_node _ = None
 
+abbrev pub sparse_from : List ℕ → Option ℕ → Option Want → Option Statement
+sparse_from from unknowns want = option_and_then (λ unknowns. option_map (λ want. Sparse from unknowns want) want) unknowns
+
+-- `sparse LIST NUM`, and then nothing or `want NUM ..`
+abbrev pub sparse_node : List (List ℕ) → Option Statement
+sparse_node (from ∷ unknowns ∷ later) = sparse_from from (size_of unknowns) (want_of later)
+sparse_node _ = None
+
 -- what a `node` line says of its node, from the word for its kind on
 abbrev pub statement_of : List ℕ → List ℕ → List (List ℕ) → Option Statement
 statement_of line kind arguments =
@@ -133,7 +157,8 @@ statement_of line kind arguments =
     if bytes_eq kind (codes "sum") then sum_node arguments else
     if bytes_eq kind (codes "product") then product_node arguments else
     if bytes_eq kind (codes "matmul") then matmul_node arguments else
-    if bytes_eq kind (codes "dense") then dense_node arguments else None
+    if bytes_eq kind (codes "dense") then dense_node arguments else
+    if bytes_eq kind (codes "sparse") then sparse_node arguments else None
 
 -- `node NAME KIND ..`
 abbrev pub node_line : List ℕ → List (List ℕ) → Option Line
@@ -148,6 +173,7 @@ line_of_words line (first ∷ later) =
     if bytes_eq first (codes "graph") then graph_line later else
     if bytes_eq first (codes "input") then input_line later else
     if bytes_eq first (codes "node") then node_line line later else
+    if bytes_eq first (codes "row") then row_line later else
     if bytes_eq first (codes "output") then output_line later else
     if bytes_eq first (codes "point") then point_line later else None
 

@@ -1,16 +1,29 @@
 -- What is kept of lines is what they say.
-use Rattle.std.specs.Prelude.{ℕ, ◌≡◌, ◌+◌, List, ◌∷◌, take, Option, Some, None, Result, Ok, Err}
+use Rattle.std.specs.Prelude.{ℕ, ◌≡◌, ◌+◌, List, ◌∷◌, length, take, Option, Some, None, Result, Ok, Err}
 use Rattle.ratfun_text.specs.declared.names.Names.TheVariants.{Listed}
+use Rattle.ratfun_text.specs.Names.{names_of as variables_of}
 use Rattle.graph_file.specs.declared.error.FileError.{FileError}
 use Rattle.graph_file.specs.declared.error.FileKind.{FileKind}
 use Rattle.graph_file.specs.declared.error.FileKind.TheVariants as kind
+use Rattle.graph_file.specs.declared.job.Need.{Need}
 use Rattle.graph_file.specs.declared.line.Line.{Line}
 use Rattle.graph_file.specs.declared.reader.Reader.{Reader}
-use Rattle.graph_file.specs.Faults.{IsBadLine, IsGoodLine, last_of, node_names_in, points_in, variables_in}
+use Rattle.graph_file.specs.Faults.{IsBadLine, IsGoodLine, Known, entries_in, last_of, node_names_in, points_in, unknowns_in, variables_in}
 use Rattle.graph_file.specs.File.{IsBadAt, IsFirstBad, IsGoodAt, IsGoodFile, said}
 use Rattle.graph_file.specs.Lines.{lines}
 use Rattle.graph_file.specs.Needed.{kinds_of}
 use Rattle.graph_file.specs.Says.{AreKinds, graph_name_in, output_in}
+
+-- what the tests of a line ask of what the reader keeps
+abbrev pub known : Reader → Known
+known reader = record {
+  stood = reader.stood;
+  variables = length (variables_of reader.variables);
+  nodes = reader.table.names;
+  unknowns = reader.unknowns;
+  entries = reader.entries;
+  points = length reader.points;
+}
 
 -- the reader keeps what these lines say, the last of which stands first
 pub record IsRead (earlier : List Line) (reader : Reader) : Type 0 where
@@ -18,6 +31,8 @@ pub record IsRead (earlier : List Line) (reader : Reader) : Type 0 where
   pub name_is : reader.name ≡ graph_name_in earlier
   pub variables_are : reader.variables ≡ Listed (variables_in earlier)
   pub names_are : reader.table.names ≡ node_names_in earlier
+  pub unknowns_are : reader.unknowns ≡ unknowns_in earlier
+  pub entries_are : reader.entries ≡ entries_in earlier
   pub kinds_are : AreKinds earlier (kinds_of reader.nodes.items)
   pub output_is : reader.output ≡ output_in earlier
   pub points_are : reader.points ≡ points_in earlier
@@ -43,12 +58,12 @@ abbrev pub IsNext : List (List ℕ) → ℕ → Result Reader FileError → Type
 IsNext all place (Ok reader) = IsGoodAt all place × IsRead (said (take (place + 1) all)) reader
 IsNext all place (Err error) = IsToldAt all place error.line error.kind
 
--- why a file is refused: what is told of it, or line 0 where memory ran out
-abbrev pub IsRefusal : List ℕ → ℕ → FileKind → Type 0
-IsRefusal bytes number kind.NoMemory = number ≡ 0
-IsRefusal bytes number fault = IsFirstBad bytes number fault
+-- why a file that is read for this is refused: what is told of it, or line 0 where memory ran out
+abbrev pub IsRefusal : Need → List ℕ → ℕ → FileKind → Type 0
+IsRefusal need bytes number kind.NoMemory = number ≡ 0
+IsRefusal need bytes number fault = IsFirstBad need bytes number fault
 
 -- the answer to all lines of a file: nothing is wrong with it and the reader keeps them, or the refusal
-abbrev pub AreRead : List ℕ → Result Reader FileError → Type 0
-AreRead bytes (Ok reader) = IsGoodFile bytes × IsRead (said (lines bytes)) reader
-AreRead bytes (Err error) = IsRefusal bytes error.line error.kind
+abbrev pub AreRead : Need → List ℕ → Result Reader FileError → Type 0
+AreRead need bytes (Ok reader) = IsGoodFile need bytes × IsRead (said (lines bytes)) reader
+AreRead need bytes (Err error) = IsRefusal need bytes error.line error.kind

@@ -1,16 +1,21 @@
 -- What is kept of the lines that have been read.
-use Rattle.std.specs.Prelude.{ℕ, ◌≡◌, ◌≢◌, ◌≤◌, ◌<◌, Bool, true, false, List, [], length, Option, Some, None, slice_get}
+use Rattle.std.specs.Prelude.{ℕ, ◌≡◌, ◌≢◌, ◌≤◌, ◌<◌, ◌+◌, Bool, true, false, IsTrue, List, [], ◌∷◌, ◌++◌, length, Option, Some, None, codes, slice_get}
+use Rattle.elim_core.specs.Sparse.{entries_of}
+use Rattle.elim_core.specs.declared.SparseRow.{SparseRow}
+use Rattle.ratfun_text.specs.Bytes.{is_name}
 use Rattle.ratfun_text.specs.declared.names.Names.{Names}
 use Rattle.ratfun_text.specs.declared.names.Names.TheVariants.{Listed}
 use Rattle.ratfun_text.specs.Names.{names_of as variables_of}
 use Rattle.graph_file.specs.declared.graph.Node.{Node}
+use Rattle.graph_file.specs.declared.graph.NodeKind.{NodeKind}
+use Rattle.graph_file.specs.declared.graph.NodeKind.TheVariants as node
 use Rattle.graph_file.specs.declared.graph.Source.{Source}
 use Rattle.graph_file.specs.declared.graph.Source.TheVariants as source
 use Rattle.graph_file.specs.declared.line.Last.{Last}
 use Rattle.graph_file.specs.declared.line.Last.TheVariants as last
 use Rattle.graph_file.specs.File.{has_output}
 use Rattle.graph_file.specs.Says.{names_of}
-use Rattle.graph_file.specs.Sound.{AreNames, IsNode}
+use Rattle.graph_file.specs.Sound.{AreFewRows, AreNames, IsKind, IsSparse}
 
 -- the graph has its name
 abbrev pub has_name : Last → Bool
@@ -19,6 +24,8 @@ has_name last.Flow = false
 has_name last.Graph = true
 has_name last.Input = true
 has_name last.Node = true
+has_name last.Sparse = true
+has_name last.Row = true
 has_name last.Output = true
 has_name last.Point = true
 
@@ -29,6 +36,8 @@ has_input last.Flow = false
 has_input last.Graph = false
 has_input last.Input = true
 has_input last.Node = true
+has_input last.Sparse = true
+has_input last.Row = true
 has_input last.Output = true
 has_input last.Point = true
 
@@ -42,10 +51,53 @@ pub record AreVariables (names : List (List ℕ)) : Type 0 where
 abbrev pub AreDistinct : List (List ℕ) → Type 0
 AreDistinct names = (i j : ℕ) (name : List ℕ) → slice_get names i ≡ Some name → slice_get names j ≡ Some name → i ≡ j
 
+-- a row may stand next
+abbrev pub has_rows : Last → Bool
+has_rows last.Sparse = true
+has_rows last.Row = true
+has_rows _ = false
+
+-- what a node computes may be sound, with rows that are few where it is sparse
+abbrev pub IsBegun : ℕ → ℕ → NodeKind → Type 0
+IsBegun variables number (node.Sparse from unknowns want rows) = (unknowns ≤ 4096) × ((given : List SparseRow) → AreFewRows unknowns given → IsSparse number from unknowns want given)
+IsBegun variables number kind = IsKind variables number kind
+
+-- the rows are few, and there are some, where it is sparse
+abbrev pub HasRows : NodeKind → Type 0
+HasRows (node.Sparse from unknowns want rows) = AreFewRows unknowns rows
+HasRows kind = Unit {0}
+
+-- it is sparse, with this many unknowns and entries so far
+abbrev pub IsOpen : ℕ → ℕ → NodeKind → Type 0
+IsOpen unknowns entries (node.Sparse from own want rows) = (own ≡ unknowns) × (entries_of rows ≡ entries) × (rows ≢ [] → AreFewRows own rows)
+IsOpen unknowns entries kind = ⊥
+
+-- it has no rows yet, where it is sparse
+abbrev pub HasNoRows : NodeKind → Type 0
+HasNoRows (node.Sparse from unknowns want rows) = rows ≡ []
+HasNoRows kind = Unit {0}
+
+-- the kind of a node's line
+abbrev pub kind_stood : NodeKind → Last
+kind_stood (node.Sparse from unknowns want rows) = last.Sparse
+kind_stood kind = last.Node
+
+-- the unknowns of a sparse node
+abbrev pub kind_unknowns : NodeKind → ℕ
+kind_unknowns (node.Sparse from unknowns want rows) = unknowns
+kind_unknowns kind = 0
+
+-- the node with this number, counted from 0, has a name, and what it computes may be sound
+pub record IsBegunNode (variables number : ℕ) (node : Node) : Type 0 where
+  pub named : IsTrue (is_name node.name)
+  pub short : length node.name ≤ 32
+  pub no_input : node.name ≢ codes "input"
+  pub kind : IsBegun variables number node.kind
+
 -- what is kept fits together, and is what a job may have
-pub record IsSound (stood : Last) (name : Option (List ℕ)) (variables : Names) (names : List (List ℕ)) (nodes : List Node) (output : Option Source) (points : List (List ℕ)) : Type 0 where
+pub record IsSound (stood : Last) (name : Option (List ℕ)) (variables : Names) (names : List (List ℕ)) (nodes : List Node) (unknowns entries : ℕ) (output : Option Source) (points : List (List ℕ)) : Type 0 where
   pub has_graph : has_name stood ≡ true → name ≢ None
-  pub short : (given : List ℕ) → name ≡ Some given → length given ≤ 32
+  pub named : (given : List ℕ) → name ≡ Some given → IsTrue (is_name given) × (length given ≤ 32)
   pub inputs : has_input stood ≡ true → AreVariables (variables_of variables)
   pub listed : variables ≡ Listed (variables_of variables)
   pub few : length (variables_of variables) ≤ 8
@@ -54,8 +106,13 @@ pub record IsSound (stood : Last) (name : Option (List ℕ)) (variables : Names)
   pub no_point : has_input stood ≡ false → points ≡ []
   pub names_are : names_of nodes ≡ names
   pub bounded : length nodes ≤ 4096
-  pub are_nodes : (k : ℕ) (node : Node) → slice_get nodes k ≡ Some node → IsNode (length (variables_of variables)) k node
+  pub begun : (k : ℕ) (node : Node) → slice_get nodes k ≡ Some node → IsBegunNode (length (variables_of variables)) k node
+  pub filled : (k : ℕ) (node : Node) → slice_get nodes k ≡ Some node → (stood ≡ last.Sparse → k + 1 < length nodes) → HasRows node.kind
+  pub some_node : has_rows stood ≡ true → nodes ≢ []
+  pub opened : has_rows stood ≡ true → (front : List Node) (node : Node) → nodes ≡ front ++ node ∷ [] → IsOpen unknowns entries node.kind
   pub distinct : AreDistinct names
   pub output_is : (k : ℕ) → output ≡ Some (source.Node k) → k < length nodes
+  pub few_unknowns : unknowns ≤ 4096
+  pub few_entries : entries ≤ 65536
   pub few_points : length points ≤ 65536
-  pub entries : (k : ℕ) (point : List ℕ) → slice_get points k ≡ Some point → length point ≡ length (variables_of variables)
+  pub fitting : (k : ℕ) (point : List ℕ) → slice_get points k ≡ Some point → length point ≡ length (variables_of variables)

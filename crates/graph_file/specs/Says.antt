@@ -1,6 +1,7 @@
 -- What a file says, in which nothing is wrong.
 use Rattle.std.specs.Prelude.{ℕ, ◌≡◌, ◌↔◌, IsTrue, if◌then◌else◌, List, [], ◌∷◌, ◌++◌, map, position, Option, Some, None, option_and_then, option_map, bytes_eq, codes, slice_get}
 use Rattle.std.specs.List.{AllZip, range_with_len}
+use Rattle.elim_core.specs.declared.SparseRow.{SparseRow}
 use Rattle.ratfun_text.specs.Grammar.{IsTreeOf}
 use Rattle.ratfun_text.specs.declared.expr.Expr.{Expr}
 use Rattle.ratfun_text.specs.declared.names.Names.{Names}
@@ -12,10 +13,11 @@ use Rattle.graph_file.specs.declared.graph.NodeKind.TheVariants as node
 use Rattle.graph_file.specs.declared.graph.Source.{Source}
 use Rattle.graph_file.specs.declared.graph.Source.TheVariants as source
 use Rattle.graph_file.specs.declared.job.Job.{Job}
+use Rattle.graph_file.specs.declared.job.Need.{Need}
 use Rattle.graph_file.specs.declared.line.Line.{Line}
 use Rattle.graph_file.specs.declared.line.Line.TheVariants as line
 use Rattle.graph_file.specs.declared.line.Statement.{Statement}
-use Rattle.graph_file.specs.declared.line.Statement.TheVariants.{Eval, Take, Slice, Chain, Sum, Product, Matmul, Dense}
+use Rattle.graph_file.specs.declared.line.Statement.TheVariants.{Eval, Take, Slice, Chain, Sum, Product, Matmul, Dense, Sparse}
 use Rattle.graph_file.specs.declared.line.Want.{Want}
 use Rattle.graph_file.specs.declared.line.Want.TheVariants.{Every, Numbers}
 use Rattle.graph_file.specs.Faults.{names_in, node_names_in, points_in, variables_in}
@@ -66,6 +68,10 @@ wanted unknowns (Numbers numbers) = numbers
 abbrev pub dense_of : List (List ℕ) → List ℕ → ℕ → ℕ → Want → Option NodeKind
 dense_of nodes from rows unknowns want = option_map (λ from. node.Dense from rows unknowns (wanted unknowns want)) (source_named nodes from)
 
+-- the rows of a sparse node stand in the lines behind its own
+abbrev pub sparse_of : List (List ℕ) → List ℕ → ℕ → Want → Option NodeKind
+sparse_of nodes from unknowns want = option_map (λ from. node.Sparse from unknowns (wanted unknowns want) []) (source_named nodes from)
+
 abbrev pub kind_of : List (List ℕ) → List Expr → Statement → Option NodeKind
 kind_of nodes exprs (Eval from texts) = eval_of nodes from exprs
 kind_of nodes exprs (Take parts) = take_of nodes parts
@@ -75,6 +81,7 @@ kind_of nodes exprs (Sum lists) = sum_of nodes lists
 kind_of nodes exprs (Product lists) = product_of nodes lists
 kind_of nodes exprs (Matmul left right rows mid cols) = matmul_of nodes left right rows mid cols
 kind_of nodes exprs (Dense from rows unknowns want) = dense_of nodes from rows unknowns want
+kind_of nodes exprs (Sparse from unknowns want) = sparse_of nodes from unknowns want
 
 -- what the node of a line computes, where the lines before it are these
 pub record IsKindOf (earlier : List Line) (name : List ℕ) (statement : Statement) (kind : NodeKind) : Type 0 where
@@ -82,13 +89,25 @@ pub record IsKindOf (earlier : List Line) (name : List ℕ) (statement : Stateme
   pub trees : AreTrees (names_in (Listed (variables_in earlier)) (line.Node name statement)) (texts_in (line.Node name statement)) exprs
   pub kind_is : kind_of (node_names_in earlier) exprs statement ≡ Some kind
 
--- what the nodes of lines compute, in the order of the file
+-- a sparse node with one more row
+abbrev pub with_row : SparseRow → NodeKind → NodeKind
+with_row row (node.Sparse from unknowns want rows) = node.Sparse from unknowns want (rows ++ row ∷ [])
+with_row row kind = kind
+
+-- the last of the nodes with one more row
+abbrev pub last_with_row : SparseRow → List NodeKind → List NodeKind
+last_with_row row [] = []
+last_with_row row (kind ∷ []) = with_row row kind ∷ []
+last_with_row row (kind ∷ next ∷ later) = kind ∷ last_with_row row (next ∷ later)
+
+-- what the nodes of the graph whose `graph` line stood last compute, in the order of the file
 abbrev pub AreKinds : List Line → List NodeKind → Type 0
 AreKinds [] kinds = kinds ≡ []
 AreKinds (line.Flow version ∷ before) kinds = AreKinds before kinds
-AreKinds (line.Graph name ∷ before) kinds = AreKinds before kinds
+AreKinds (line.Graph name ∷ before) kinds = kinds ≡ []
 AreKinds (line.Input names ∷ before) kinds = AreKinds before kinds
 AreKinds (line.Node name statement ∷ before) kinds = (front : List NodeKind) × ((kind : NodeKind) × ((kinds ≡ front ++ kind ∷ []) × AreKinds before front × IsKindOf before name statement kind))
+AreKinds (line.Row columns ∷ before) kinds = (front : List NodeKind) × ((kinds ≡ last_with_row (record { columns = columns }) front) × AreKinds before front)
 AreKinds (line.Output list ∷ before) kinds = AreKinds before kinds
 AreKinds (line.Point entries ∷ before) kinds = AreKinds before kinds
 
@@ -99,6 +118,7 @@ graph_name_in (line.Flow version ∷ before) = graph_name_in before
 graph_name_in (line.Graph name ∷ before) = Some name
 graph_name_in (line.Input names ∷ before) = graph_name_in before
 graph_name_in (line.Node name statement ∷ before) = graph_name_in before
+graph_name_in (line.Row columns ∷ before) = graph_name_in before
 graph_name_in (line.Output list ∷ before) = graph_name_in before
 graph_name_in (line.Point entries ∷ before) = graph_name_in before
 
@@ -106,9 +126,10 @@ graph_name_in (line.Point entries ∷ before) = graph_name_in before
 abbrev pub output_in : List Line → Option Source
 output_in [] = None
 output_in (line.Flow version ∷ before) = output_in before
-output_in (line.Graph name ∷ before) = output_in before
+output_in (line.Graph name ∷ before) = None
 output_in (line.Input names ∷ before) = output_in before
 output_in (line.Node name statement ∷ before) = output_in before
+output_in (line.Row columns ∷ before) = output_in before
 output_in (line.Output list ∷ before) = source_named (node_names_in before) list
 output_in (line.Point entries ∷ before) = output_in before
 
@@ -133,8 +154,8 @@ pub record FileForm : Type 0 where
 abbrev pub form : Job → FileForm
 form job = record { graphs = job.graphs; points = job.points }
 
--- the file says this
-pub record Says (bytes : List ℕ) (what : FileForm) : Type 0 where
+-- a file that is read for this says this
+pub record Says (need : Need) (bytes : List ℕ) (what : FileForm) : Type 0 where
   pub graph : Graph
   pub only : what.graphs ≡ graph ∷ []
   pub says_graph : SaysGraph (said (lines bytes)) graph

@@ -1,13 +1,16 @@
 -- What holds of the graphs and points of every file that is read.
-use Rattle.std.specs.Prelude.{◌≡◌, ◌≢◌, ℕ, ◌<◌, ◌≤◌, ◌+◌, ◌-◌, ◌*◌, List, [], length, Some, IsTrue, codes, slice_get, slice_index}
+use Rattle.std.specs.Prelude.{◌≡◌, ◌≢◌, ℕ, ◌<◌, ◌≤◌, ◌-◌, ◌*◌, List, length, Some, IsTrue, codes, slice_get}
 use Rattle.ratfun_text.specs.Bytes.{is_name}
 use Rattle.ratfun_text.specs.Value.{greatest}
 use Rattle.ratfun_text.specs.declared.expr.Expr.{Expr}
-use Rattle.graph_file.specs.Needed.{IsNeeded, Reads, sources_of}
+use Rattle.elim_core.specs.Solver.{AreUnknowns}
+use Rattle.elim_core.specs.Sparse.{AreSparseRows, entries_of}
+use Rattle.elim_core.specs.declared.SparseRow.{SparseRow}
+use Rattle.graph_file.specs.Needed.{IsNeeded}
 use Rattle.graph_file.specs.declared.graph.Graph.{Graph}
 use Rattle.graph_file.specs.declared.graph.Node.{Node}
 use Rattle.graph_file.specs.declared.graph.NodeKind.{NodeKind}
-use Rattle.graph_file.specs.declared.graph.NodeKind.TheVariants.{Eval, Take, Slice, Matmul, Dense}
+use Rattle.graph_file.specs.declared.graph.NodeKind.TheVariants.{Eval, Take, Slice, Chain, Sum, Product, Matmul, Dense, Sparse}
 use Rattle.graph_file.specs.declared.graph.Source.{Source}
 use Rattle.graph_file.specs.declared.graph.Source.TheVariants as source
 
@@ -31,26 +34,78 @@ pub record AreSides (rows mid cols : ℕ) : Type 0 where
   pub left : rows * mid ≤ 262144
   pub right : mid * cols ≤ 262144
 
+-- the list is there: the graph's input, or the list of a node before the one with this number, counted from 0
+abbrev pub IsEarlier : ℕ → Source → Type 0
+IsEarlier number source.Input = Unit {0}
+IsEarlier number (source.Node k) = k < number
+
+-- at least one expression; over the input the arguments are those of the variables
+pub record IsEval (variables number : ℕ) (from : Source) (exprs : List Expr) : Type 0 where
+  pub earlier : IsEarlier number from
+  pub some : 1 ≤ length exprs
+  pub arguments : from ≡ source.Input → (k : ℕ) (expr : Expr) → slice_get exprs k ≡ Some expr → greatest expr ≤ variables
+
+-- at least one entry of a list, each given by the list and a position
+pub record IsTake (number : ℕ) (parts : List (Source × ℕ)) : Type 0 where
+  pub earlier : (k : ℕ) (part : Source × ℕ) → slice_get parts k ≡ Some part → IsEarlier number part.0
+  pub some : 1 ≤ length parts
+  pub positions : (k : ℕ) (part : Source × ℕ) → slice_get parts k ≡ Some part → IsPosition part.1
+
+-- positions from a first to a last one
+pub record IsSlice (number : ℕ) (from : Source) (first last : ℕ) : Type 0 where
+  pub earlier : IsEarlier number from
+  pub low : 1 ≤ first
+  pub order : first ≤ last
+  pub high : last ≤ 262144
+
+-- at least one list
+pub record AreLists (number : ℕ) (parts : List Source) : Type 0 where
+  pub earlier : (k : ℕ) (from : Source) → slice_get parts k ≡ Some from → IsEarlier number from
+  pub some : 1 ≤ length parts
+
+-- two matrices, whose product is there
+pub record IsMatmul (number : ℕ) (left right : Source) (rows mid cols : ℕ) : Type 0 where
+  pub first : IsEarlier number left
+  pub second : IsEarlier number right
+  pub sides : AreSides rows mid cols
+
 -- a system of 1 to 512 equations in 1 to 511 unknowns, of which some are wanted, each by its number, counted from 1
-pub record IsDense (rows unknowns : ℕ) (want : List ℕ) : Type 0 where
+pub record IsDense (number : ℕ) (from : Source) (rows unknowns : ℕ) (want : List ℕ) : Type 0 where
+  pub earlier : IsEarlier number from
   pub rows_low : 1 ≤ rows
   pub rows_high : rows ≤ 512
   pub unknowns_low : 1 ≤ unknowns
   pub unknowns_high : unknowns ≤ 511
   pub some : 0 < length want
-  pub wanted : (i : ℕ) → i < length want → (0 < slice_index want i) × (slice_index want i < unknowns + 1)
+  pub wanted : AreUnknowns unknowns want
 
--- what a node reads is there: the graph's input, which has this many variables, or the list of a node before the
--- one with this number, counted from 0; and its numbers are in their ranges
-pub record IsKind (variables number : ℕ) (kind : NodeKind) : Type 0 where
-  pub earlier : (k : ℕ) → Reads kind (source.Node k) → k < number
-  pub some : sources_of kind ≢ []
-  pub exprs : (from : Source) → kind ≡ Eval from [] → ⊥
-  pub arguments : (exprs : List Expr) → kind ≡ Eval source.Input exprs → (k : ℕ) (expr : Expr) → slice_get exprs k ≡ Some expr → greatest expr ≤ variables
-  pub positions : (parts : List (Source × ℕ)) → kind ≡ Take parts → (k : ℕ) (part : Source × ℕ) → slice_get parts k ≡ Some part → IsPosition part.1
-  pub range : (from : Source) (first last : ℕ) → kind ≡ Slice from first last → (1 ≤ first) × (first ≤ last) × (last ≤ 262144)
-  pub sides : (left right : Source) (rows mid cols : ℕ) → kind ≡ Matmul left right rows mid cols → AreSides rows mid cols
-  pub dense : (from : Source) (rows unknowns : ℕ) (want : List ℕ) → kind ≡ Dense from rows unknowns want → IsDense rows unknowns want
+-- at least one row, each with at least one entry, and together at most 65536
+pub record AreFewRows (unknowns : ℕ) (rows : List SparseRow) : Type 0 where
+  pub some : 1 ≤ length rows
+  pub filled : (k : ℕ) (row : SparseRow) → slice_get rows k ≡ Some row → 1 ≤ length row.columns
+  pub over : AreSparseRows unknowns rows
+  pub bounded : entries_of rows ≤ 65536
+
+-- a system of sparse rows in 1 to 4096 unknowns, of which some are wanted, each by its number, counted from 1
+pub record IsSparse (number : ℕ) (from : Source) (unknowns : ℕ) (want : List ℕ) (rows : List SparseRow) : Type 0 where
+  pub earlier : IsEarlier number from
+  pub unknowns_low : 1 ≤ unknowns
+  pub unknowns_high : unknowns ≤ 4096
+  pub some : 0 < length want
+  pub wanted : AreUnknowns unknowns want
+  pub filled : AreFewRows unknowns rows
+
+-- in a graph of this many variables the node with this number, counted from 0, may compute this
+abbrev pub IsKind : ℕ → ℕ → NodeKind → Type 0
+IsKind variables number (Eval from exprs) = IsEval variables number from exprs
+IsKind variables number (Take parts) = IsTake number parts
+IsKind variables number (Slice from first last) = IsSlice number from first last
+IsKind variables number (Chain parts) = AreLists number parts
+IsKind variables number (Sum parts) = AreLists number parts
+IsKind variables number (Product parts) = AreLists number parts
+IsKind variables number (Matmul left right rows mid cols) = IsMatmul number left right rows mid cols
+IsKind variables number (Dense from rows unknowns want) = IsDense number from rows unknowns want
+IsKind variables number (Sparse from unknowns want rows) = IsSparse number from unknowns want rows
 
 -- the node with this number, counted from 0, has a name of at most 32 bytes that isn't `input`, and is sound in a graph
 -- of this many variables
@@ -65,9 +120,10 @@ pub record IsMarked (graph : Graph) (k : ℕ) (node : Node) : Type 0 where
   pub needed : IsTrue node.needed → ∥ IsNeeded graph k ∥₁
   pub marked : IsNeeded graph k → IsTrue node.needed
 
--- a graph has a name of at most 32 bytes, 1 to 8 variables, at most 4096 sound nodes with distinct names, each marked
+-- a graph has a name, which is a letter with letters, digits and underscores behind it, of at most 32 bytes, 1 to 8 variables, at most 4096 sound nodes with distinct names, each marked
 -- where it is needed, and its input or one of its nodes as output
 pub record IsGraph (graph : Graph) : Type 0 where
+  pub named : IsTrue (is_name graph.name)
   pub short : length graph.name ≤ 32
   pub some : 1 ≤ length graph.inputs
   pub few : length graph.inputs ≤ 8

@@ -1,12 +1,15 @@
 //! What may be wrong with a line beside its expressions.
-ghost use Rattle.std.specs.Prelude.{◌≡◌, [], map, IfOk};
+ghost use Rattle.std.specs.Prelude.{◌≡◌, ◌+◌, [], map, length, nat_le, IfOk};
 ghost use Rattle.std.specs.List.{list_all};
+ghost use Rattle.ratfun_text.specs.Names.{names_of as variables_of};
 ghost use Rattle.graph_file.specs.Faults as spec;
+ghost use Rattle.graph_file.specs.Read.{known};
 
 use crate::error::FileKind;
 use crate::line::{Last, Line, Statement, Want};
+use crate::reader::Reader;
 use crate::table::Table;
-use ratfun_text::Name;
+use ratfun_text::{Name, Names};
 use std::alloc::{AllocError, Global};
 
 /// The most bytes of a name that a line gives.
@@ -30,8 +33,24 @@ const EQUATIONS: u32 = 512;
 /// The most unknowns of a system.
 const UNKNOWNS: u32 = 511;
 
+/// The most unknowns of a system of sparse rows.
+const SPARSE_UNKNOWNS: u32 = 4096;
+
+/// The most entries of all rows of a sparse node.
+const ENTRIES: usize = 65536;
+
 /// What each entry of a point is below: 2^61 - 1.
 const ENTRY_LIMIT: u64 = 2305843009213693951;
+
+/// How many variables the graph has.
+fn count(variables: &Names) -> usize
+    ensures { result ≡ length (variables_of variables.now) }
+{
+    match variables {
+        Names::Listed(names) => names.len(),
+        Names::Numbered => 0,
+    }
+}
 
 fn may_stand(stood: Last, line: &Line) -> bool
     ensures { result ≡ spec.may_stand stood line.now }
@@ -40,25 +59,26 @@ fn may_stand(stood: Last, line: &Line) -> bool
         (Last::Start, Line::Flow(_))
         | (Last::Flow, Line::Graph(_))
         | (Last::Graph, Line::Input(_))
-        | (Last::Input | Last::Node, Line::Node(_, _) | Line::Output(_))
+        | (Last::Input | Last::Node | Last::Row, Line::Node(_, _) | Line::Output(_))
+        | (Last::Sparse | Last::Row, Line::Row(_))
         | (Last::Output | Last::Point, Line::Point(_)) => true,
         _ => false,
     }
 }
 
-fn fits(variables: usize, line: &Line) -> bool
-    ensures { result ≡ spec.fits variables line.now }
+fn fits(reader: &Reader, line: &Line) -> bool
+    ensures { result ≡ spec.fits (known reader.now) line.now }
 {
     match line {
-        Line::Point(entries) => entries.len() == variables,
+        Line::Point(entries) => entries.len() == count(&reader.variables),
         _ => true,
     }
 }
 
-fn is_syntax(stood: Last, variables: usize, line: &Line) -> bool
-    ensures { result ≡ spec.is_syntax stood variables line.now }
+fn is_syntax(reader: &Reader, line: &Line) -> bool
+    ensures { result ≡ spec.is_syntax (known reader.now) line.now }
 {
-    !may_stand(stood, line) || !fits(variables, line)
+    !may_stand(reader.stood, line) || !fits(reader, line)
 }
 
 fn is_version(line: &Line) -> bool
@@ -90,15 +110,15 @@ fn are_new(alloc: Global, names: &[Name]) -> Result<bool, AllocError>
     Ok(true)
 }
 
-fn is_repeated(alloc: Global, nodes: &Table, line: &Line) -> Result<bool, AllocError>
-    ensures { IfOk result (λ is_repeated. is_repeated ≡ spec.is_repeated nodes.now.names line.now) }
+fn is_repeated(reader: &Reader, line: &Line) -> Result<bool, AllocError>
+    ensures { IfOk result (λ is_repeated. is_repeated ≡ spec.is_repeated (known reader.now) line.now) }
 {
     match line {
         Line::Input(names) => {
-            let are_new = are_new(alloc, names.as_slice())?;
+            let are_new = are_new(reader.alloc, names.as_slice())?;
             Ok(!are_new)
         }
-        Line::Node(name, _) => Ok(is_known(nodes, name.bytes())),
+        Line::Node(name, _) => Ok(is_known(&reader.table, name.bytes())),
         _ => Ok(false),
     }
 }
@@ -137,15 +157,16 @@ fn are_lists_known(nodes: &Table, statement: &Statement) -> bool
             cols: _,
         } => is_known(nodes, left.bytes()) && is_known(nodes, right.bytes()),
         Statement::Dense { from, .. } => is_known(nodes, from.bytes()),
+        Statement::Sparse { from, .. } => is_known(nodes, from.bytes()),
     }
 }
 
-fn is_unknown_node(nodes: &Table, line: &Line) -> bool
-    ensures { result ≡ spec.is_unknown_node nodes.now.names line.now }
+fn is_unknown_node(reader: &Reader, line: &Line) -> bool
+    ensures { result ≡ spec.is_unknown_node (known reader.now) line.now }
 {
     match line {
-        Line::Node(_, statement) => !are_lists_known(nodes, statement),
-        Line::Output(list) => !is_known(nodes, list.bytes()),
+        Line::Node(_, statement) => !are_lists_known(&reader.table, statement),
+        Line::Output(list) => !is_known(&reader.table, list.bytes()),
         _ => false,
     }
 }
@@ -227,6 +248,12 @@ fn is_system(rows: u32, unknowns: u32, want: &Want) -> bool
     is_counted(rows, EQUATIONS) && is_counted(unknowns, UNKNOWNS) && is_want(unknowns, want)
 }
 
+fn is_sparse(unknowns: u32, want: &Want) -> bool
+    ensures { result ≡ spec.is_sparse unknowns want.now }
+{
+    is_counted(unknowns, SPARSE_UNKNOWNS) && is_want(unknowns, want)
+}
+
 fn is_in_range(statement: &Statement) -> bool
     ensures { result ≡ spec.is_in_range statement.now }
 {
@@ -250,6 +277,11 @@ fn is_in_range(statement: &Statement) -> bool
             unknowns,
             want,
         } => is_system(*rows, *unknowns, want),
+        Statement::Sparse {
+            from: _,
+            unknowns,
+            want,
+        } => is_sparse(*unknowns, want),
         _ => true,
     }
 }
@@ -266,49 +298,56 @@ fn are_short(names: &[Name]) -> bool
     names.iter().all(|name| is_short(name.bytes()))
 }
 
-fn is_limit(nodes: usize, points: usize, line: &Line) -> bool
-    ensures { result ≡ spec.is_limit nodes points line.now }
+fn are_columns(columns: &[u32], unknowns: u32) -> bool
+    ensures { result ≡ spec.are_columns unknowns columns.now }
+{
+    columns.iter().all(|column| *column <= unknowns)
+}
+
+/// Whether there is room for more entries of a sparse node.
+fn is_room(entries: usize, more: usize) -> bool
+    ensures { result ≡ nat_le (entries + more) 65536 }
+{
+    more <= ENTRIES && entries <= ENTRIES - more
+}
+
+fn is_limit(reader: &Reader, line: &Line) -> bool
+    ensures { result ≡ spec.is_limit (known reader.now) line.now }
 {
     match line {
         Line::Graph(name) => !is_short(name.bytes()),
         Line::Input(names) => !(are_short(names.as_slice()) && names.len() <= VARIABLES),
         Line::Node(name, statement) => !(is_short(name.bytes())
-            && nodes < NODES
+            && reader.table.len() < NODES
             && is_in_range(statement)),
-        Line::Point(_) => points >= POINTS,
+        Line::Row(columns) => !(are_columns(columns.as_slice(), reader.unknowns)
+            && is_room(reader.entries, columns.len())),
+        Line::Point(_) => reader.points.len() >= POINTS,
         _ => false,
     }
 }
 
-/// The first thing that is wrong with the line, its expressions apart, where the last line, the number of variables,
-/// the nodes' names and the number of points are these.
-pub fn fault_after(
-    alloc: Global,
-    stood: Last,
-    variables: usize,
-    nodes: &Table,
-    points: usize,
-    line: &Line,
-) -> Result<Option<FileKind>, AllocError>
-    ensures { IfOk result (λ fault. fault ≡ spec.fault_after stood variables nodes.now.names points line.now) }
+/// The first thing that is wrong with the line, its expressions apart, behind the lines that the reader keeps.
+pub fn fault(reader: &Reader, line: &Line) -> Result<Option<FileKind>, AllocError>
+    ensures { IfOk result (λ fault. fault ≡ spec.fault_after (known reader.now) line.now) }
 {
-    if is_syntax(stood, variables, line) {
+    if is_syntax(reader, line) {
         return Ok(Some(FileKind::Syntax));
     }
     if is_version(line) {
         return Ok(Some(FileKind::Version));
     }
-    let is_repeated = is_repeated(alloc, nodes, line)?;
+    let is_repeated = is_repeated(reader, line)?;
     if is_repeated {
         return Ok(Some(FileKind::Repeated));
     }
-    if is_unknown_node(nodes, line) {
+    if is_unknown_node(reader, line) {
         return Ok(Some(FileKind::UnknownNode));
     }
     if is_residue(line) {
         return Ok(Some(FileKind::Residue));
     }
-    if is_limit(nodes.len(), points, line) {
+    if is_limit(reader, line) {
         return Ok(Some(FileKind::Limit));
     }
     Ok(None)

@@ -1,4 +1,5 @@
 //! What a file says of its graphs.
+use elim_core::SparseRow;
 use ratfun_text::{Expr, Name};
 use sqlite_items::Items;
 
@@ -55,6 +56,16 @@ pub enum NodeKind {
         rows: u32,
         unknowns: u32,
         want: Items<u32>,
+    },
+    /// The solution of a system of linear equations in `unknowns` unknowns, most of whose coefficients are 0. The list has
+    /// the values of row after row, those of a row in its columns: column 0 is that of the right side, and column k that of
+    /// the unknown with the number k. There is at least one row, each row has at least one column, its columns ascend, and
+    /// all rows together have at most 65536. `want` has the numbers of the unknowns whose values are wanted, counted from 1.
+    Sparse {
+        from: Source,
+        unknowns: u32,
+        want: Items<u32>,
+        rows: Items<SparseRow>,
     },
 }
 

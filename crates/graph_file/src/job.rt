@@ -1,3 +1,4 @@
+ghost use Rattle.graph_file.specs.Props.{props};
 ghost use Rattle.graph_file.specs.Sound.{IsJob};
 
 use crate::graph::Graph;
@@ -19,5 +20,5 @@ pub struct Job {
     pub graphs: Items<Graph>,
     pub points: Items<Point>,
     pub need: Need,
-    pub ghost sound: { IsJob graphs points },
+    pub ghost sound: { IsJob graphs points } by { Prim.hlevel props },
 }

@@ -196,6 +196,28 @@ fn dense_of(
     }))
 }
 
+fn sparse_of(
+    alloc: Global,
+    nodes: &Table,
+    from: &[u8],
+    unknowns: u32,
+    want: &Want,
+) -> Result<Option<NodeKind>, AllocError>
+    requires { length nodes.now.names ≤ 4096 }
+    ensures { IfOk result (λ kind. kind ≡ spec.sparse_of nodes.now.names from.now unknowns want.now) }
+{
+    let Some(from) = source_named(nodes, from) else {
+        return Ok(None);
+    };
+    let want = wanted(alloc, unknowns, want)?;
+    Ok(Some(NodeKind::Sparse {
+        from,
+        unknowns,
+        want,
+        rows: Items::new(alloc),
+    }))
+}
+
 /// What a node computes, where the earlier nodes have these names and its expressions these trees.
 pub fn kind_of(
     alloc: Global,
@@ -226,5 +248,10 @@ pub fn kind_of(
             unknowns,
             want,
         } => dense_of(alloc, nodes, from.bytes(), *rows, *unknowns, want),
+        Statement::Sparse {
+            from,
+            unknowns,
+            want,
+        } => sparse_of(alloc, nodes, from.bytes(), *unknowns, want),
     }
 }

@@ -13,6 +13,8 @@ pub enum Line {
     Input(Items<Name>),
     /// `node NAME KIND ..`
     Node(Name, Statement),
+    /// `row NUM ..`: the columns of a row of the sparse node before it, ascending, where none is past the greatest of its type
+    Row(Items<u32>),
     /// `output LIST`
     Output(Name),
     /// `point NUM ..`
@@ -64,6 +66,12 @@ pub enum Statement {
         unknowns: u32,
         want: Want,
     },
+    /// `sparse LIST NUM`, and then nothing or `want NUM ..`. The rows stand in the lines behind it.
+    Sparse {
+        from: Name,
+        unknowns: u32,
+        want: Want,
+    },
 }
 
 /// The unknowns of a system whose values are wanted.
@@ -83,7 +91,11 @@ pub enum Last {
     Flow,
     Graph,
     Input,
+    /// A `node` line of another kind than sparse.
     Node,
+    /// A `node` line of kind sparse.
+    Sparse,
+    Row,
     Output,
     Point,
 }

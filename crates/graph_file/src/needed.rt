@@ -61,6 +61,7 @@ pub fn sources_of(alloc: Global, kind: &NodeKind) -> Result<Items<Source>, Alloc
             cols: _,
         } => two_sources(alloc, *left, *right),
         NodeKind::Dense { from, .. } => one_source(alloc, *from),
+        NodeKind::Sparse { from, .. } => one_source(alloc, *from),
     }
 }
 

@@ -1,9 +1,10 @@
 //! Numbers in the words of a line.
-ghost use Rattle.std.specs.Prelude.{◌≡◌, ◌≤◌, ◌<◌, ◌^◌, min, map, IfOk, IfSome, option_map};
-ghost use Rattle.std.specs.List.{list_all};
+ghost use Rattle.std.specs.Prelude.{◌≡◌, ◌≤◌, ◌<◌, ◌^◌, ◌==◌, ◌∷◌, not, min, map, length, drop, IfOk, IfSome, option_map};
+ghost use Rattle.std.specs.List.{list_all, position_or_len};
 ghost use Rattle.std.specs.Char.{is_ascii_digit};
 ghost use Rattle.ratfun_text.specs.Bytes as spec_bytes;
 ghost use Rattle.ratfun_text.specs.Bytes.{number_of};
+ghost use Rattle.graph_file.specs.Digits.{comes_before as comes_before_by};
 ghost use Rattle.graph_file.specs.Line as spec;
 
 use ratfun_text::bytes::number;
@@ -67,6 +68,78 @@ pub fn sizes(alloc: Global, words: &[&[u8]]) -> Result<Option<Items<u32>>, Alloc
         all.push(size)?;
     }
     Ok(Some(all))
+}
+
+fn leading_zeros(digits: &[u8]) -> usize
+    ensures within { result ≤ length digits.now }
+    ensures value { result ≡ position_or_len (λ digit. not (digit == 48)) digits.now }
+{
+    digits
+        .iter()
+        .position(|digit| *digit != b'0')
+        .unwrap_or(digits.len())
+}
+
+/// The digits from the first one on that isn't 0.
+fn significant(digits: &[u8]) -> &[u8]
+    ensures { result.now ≡ drop (position_or_len (λ digit. not (digit == 48)) digits.now) digits.now }
+{
+    &digits[leading_zeros(digits)..]
+}
+
+/// Whether the first place at which the digits differ has the smaller one in the first.
+fn comes_before(first: &[u8], second: &[u8]) -> bool
+    requires { length first.now ≡ length second.now }
+    ensures { result ≡ comes_before_by first.now second.now }
+{
+    for place in 0..first.len() {
+        if first[place] != second[place] {
+            return first[place] < second[place];
+        }
+    }
+    false
+}
+
+/// Whether both words write numbers, and the first is less, however many digits they have.
+fn are_less(first: &[u8], second: &[u8]) -> bool
+    ensures { result ≡ spec.are_less (number_of first.now) (number_of second.now) }
+{
+    if !is_digits(first) {
+        return false;
+    }
+    if !is_digits(second) {
+        return false;
+    }
+    let first = significant(first);
+    let second = significant(second);
+    if first.len() != second.len() {
+        return first.len() < second.len();
+    }
+    comes_before(first, second)
+}
+
+/// Whether each of the later words writes a greater number than the word before it.
+fn ascend_from(first: &[u8], later: &[&[u8]]) -> bool
+    ensures { result ≡ spec.are_ascending (first.now ∷ map (λ word. word.now) later.now) }
+{
+    let mut before = first;
+    for word in later {
+        if !are_less(before, word) {
+            return false;
+        }
+        before = *word;
+    }
+    true
+}
+
+/// Whether each of the words but the first writes a greater number than the word before it.
+pub fn are_ascending(words: &[&[u8]]) -> bool
+    ensures { result ≡ spec.are_ascending (map (λ word. word.now) words.now) }
+{
+    let [first, later @ ..] = words else {
+        return true;
+    };
+    ascend_from(first, later)
 }
 
 /// The entries that the words write.

@@ -7,7 +7,7 @@ ghost use Rattle.graph_file.specs.Line as spec;
 
 use crate::line::{Line, Statement, Want};
 use crate::lines::{after_words, cut, is_plain, words};
-use crate::numbers::{entries, entry, size, sizes};
+use crate::numbers::{are_ascending, entries, entry, size, sizes};
 use ratfun_text::Name;
 use ratfun_text::bytes::is_name;
 use sqlite_items::Items;
@@ -85,6 +85,21 @@ fn point_line(alloc: Global, words: &[&[u8]]) -> Result<Option<Line>, AllocError
         return Ok(None);
     };
     Ok(Some(Line::Point(entries)))
+}
+
+fn row_line(alloc: Global, words: &[&[u8]]) -> Result<Option<Line>, AllocError>
+    ensures { IfOk result (λ line. line ≡ spec.row_line (map (λ word. word.now) words.now)) }
+{
+    let [_, ..] = words else {
+        return Ok(None);
+    };
+    if !are_ascending(words) {
+        return Ok(None);
+    }
+    let Some(columns) = sizes(alloc, words)? else {
+        return Ok(None);
+    };
+    Ok(Some(Line::Row(columns)))
 }
 
 /// The pieces of the text between semicolons.
@@ -274,6 +289,26 @@ fn dense_node(alloc: Global, words: &[&[u8]]) -> Result<Option<Statement>, Alloc
     }))
 }
 
+fn sparse_node(alloc: Global, words: &[&[u8]]) -> Result<Option<Statement>, AllocError>
+    ensures { IfOk result (λ node. node ≡ spec.sparse_node (map (λ word. word.now) words.now)) }
+{
+    let [from, unknowns, later @ ..] = words else {
+        return Ok(None);
+    };
+    let Some(unknowns) = size(unknowns) else {
+        return Ok(None);
+    };
+    let Some(want) = want_of(alloc, later)? else {
+        return Ok(None);
+    };
+    let from = Name::of(alloc, from)?;
+    Ok(Some(Statement::Sparse {
+        from,
+        unknowns,
+        want,
+    }))
+}
+
 fn statement_of(
     alloc: Global,
     line: &[u8],
@@ -305,6 +340,9 @@ fn statement_of(
     }
     if kind == b"dense".as_slice() {
         return dense_node(alloc, words);
+    }
+    if kind == b"sparse".as_slice() {
+        return sparse_node(alloc, words);
     }
     Ok(None)
 }
@@ -342,6 +380,9 @@ fn line_of_words(alloc: Global, line: &[u8], words: &[&[u8]]) -> Result<Option<L
     }
     if *first == b"node".as_slice() {
         return node_line(alloc, line, later);
+    }
+    if *first == b"row".as_slice() {
+        return row_line(alloc, later);
     }
     if *first == b"output".as_slice() {
         return output_line(alloc, later);

@@ -65,9 +65,9 @@ fn has_output(stood: Last) -> bool
 }
 
 /// The reader after all lines.
-fn read_lines(alloc: Global, bytes: &[u8]) -> Result<Reader, FileError>
+fn read_lines(alloc: Global, bytes: &[u8], _need: Need) -> Result<Reader, FileError>
     requires { length bytes.now ≤ 16777216 }
-    ensures { AreRead bytes.now result }
+    ensures { AreRead _need bytes.now result }
 {
     let mut reader = first_reader(alloc);
     let mut place = 0;
@@ -103,7 +103,7 @@ fn listed(variables: Names) -> Items<Name>
 /// The job that the lines ask for.
 fn finish(reader: Reader, need: Need) -> Result<Job, AllocError>
     requires { spec.has_output reader.stood ≡ true }
-    ensures said { IfOk result (λ job. (bytes : List ℕ) → IsRead (said (spec_lines.lines bytes)) reader → Says bytes (form job)) }
+    ensures said { IfOk result (λ job. (bytes : List ℕ) → IsRead (said (spec_lines.lines bytes)) reader → Says need bytes (form job)) }
     ensures need { IfOk result (λ job. job.need ≡ need) }
 {
     let Reader {
@@ -113,6 +113,8 @@ fn finish(reader: Reader, need: Need) -> Result<Job, AllocError>
         variables,
         table: _,
         nodes,
+        unknowns: _,
+        entries: _,
         output,
         points,
     } = reader;
@@ -139,18 +141,19 @@ fn finish(reader: Reader, need: Need) -> Result<Job, AllocError>
 /// A file has the line `flow 1`, then `graph NAME`, `input NAME ..`, any number of lines `node NAME KIND ..`, the line
 /// `output LIST`, and any number of lines `point NUM ..`. Lines of blanks and lines that begin with `#` are passed over,
 /// but not as line 1. The kinds of nodes are `eval LIST = EXPR ; ..`, `take LIST NUM ..`, `slice LIST NUM NUM`,
-/// `chain LIST ..`, `sum LIST ..`, `product LIST ..`, `matmul LIST LIST NUM NUM NUM` and `dense LIST NUM NUM`, behind which
-/// `want NUM ..` may stand.
+/// `chain LIST ..`, `sum LIST ..`, `product LIST ..`, `matmul LIST LIST NUM NUM NUM`, `dense LIST NUM NUM` and
+/// `sparse LIST NUM`; behind the last two `want NUM ..` may stand. Behind a node of kind `sparse` stand its rows, one line
+/// `row NUM ..` or more, each with the ascending columns in which the row has values.
 ///
 /// A refusal tells the first bad line with the first kind of `FileKind`'s order that applies there, or `Missing` at the
 /// last line. Want of memory is the kind `NoMemory` at line 0.
 pub fn read_graphs(alloc: Global, bytes: &[u8], need: Need) -> Result<Job, FileError>
     requires fits { length bytes.now ≤ 16777216 }
-    ensures ok { IfOk result (λ job. IsGoodFile bytes.now × Says bytes.now (form job)) }
+    ensures ok { IfOk result (λ job. IsGoodFile need bytes.now × Says need bytes.now (form job)) }
     ensures need { IfOk result (λ job. job.need ≡ need) }
-    ensures bad { IfErr result (λ error. IsRefusal bytes.now error.line error.kind) }
+    ensures bad { IfErr result (λ error. IsRefusal need bytes.now error.line error.kind) }
 {
-    let reader = read_lines(alloc, bytes)?;
+    let reader = read_lines(alloc, bytes, need)?;
     match finish(reader, need) {
         Ok(job) => Ok(job),
         Err(AllocError) => Err(FileError {

@@ -1,5 +1,6 @@
 //! The lines of a file, read one after the other.
 ghost use Rattle.graph_file.specs.Reader.{IsSound};
+ghost use Rattle.graph_file.specs.ReaderProps.{props};
 
 use crate::graph::{Node, Source};
 use crate::line::Last;
@@ -22,7 +23,11 @@ pub struct Reader {
     /// The names of the graph's nodes.
     pub table: Table,
     pub nodes: Vec<Node>,
+    /// The unknowns of the last node, where that is sparse.
+    pub unknowns: u32,
+    /// How many entries its rows have so far.
+    pub entries: usize,
     pub output: Option<Source>,
     pub points: Items<Point>,
-    pub ghost sound: { IsSound stood name variables table.names nodes.items output points },
+    pub ghost sound: { IsSound stood name variables table.names nodes.items unknowns entries output points } by { Prim.hlevel props },
 }

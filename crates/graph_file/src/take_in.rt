@@ -12,43 +12,22 @@ ghost use Rattle.graph_file.specs.Formed.{IsFormed};
 ghost use Rattle.graph_file.specs.Line as spec_line;
 ghost use Rattle.graph_file.specs.Line.{texts_in};
 ghost use Rattle.graph_file.specs.Parsed.{AreParsed};
-ghost use Rattle.graph_file.specs.Read.{IsRead, IsReadOn};
+ghost use Rattle.graph_file.specs.Read.{IsRead, IsReadOn, known};
 ghost use Rattle.graph_file.specs.Says.{AreTrees};
 
 use crate::error::FileKind;
 use crate::exprs::expressions;
-use crate::faults::fault_after;
+use crate::faults::fault;
 use crate::kind::{kind_of, source_named};
 use crate::line::{Line, Statement};
 use crate::patterns::line_of;
 use crate::reader::Reader;
-use crate::steps::{after_flow, after_graph, after_input, after_node, after_output, after_point};
+use crate::steps::{
+    after_flow, after_graph, after_input, after_node, after_output, after_point, after_row,
+};
 use ratfun_text::{Expr, Name, Names};
 use sqlite_items::Items;
 use std::alloc::{AllocError, Global};
-
-fn count(variables: &Names) -> usize
-    ensures { result ≡ length (variables_of variables.now) }
-{
-    match variables {
-        Names::Listed(names) => names.len(),
-        Names::Numbered => 0,
-    }
-}
-
-/// The first thing that is wrong with the line, its expressions apart.
-fn fault(reader: &Reader, line: &Line) -> Result<Option<FileKind>, AllocError>
-    ensures { IfOk result (λ fault. fault ≡ spec.fault_after reader.now.stood (length (variables_of reader.now.variables)) reader.now.table.names (length reader.now.points) line.now) }
-{
-    fault_after(
-        reader.alloc,
-        reader.stood,
-        count(&reader.variables),
-        &reader.table,
-        reader.points.len(),
-        line,
-    )
-}
 
 /// The trees of expressions over a list.
 fn expressions_over(
@@ -109,7 +88,7 @@ fn take_node(
     exprs: Items<Expr>,
 ) -> Result<Reader, AllocError>
     requires formed { (most : ℕ) × IsFormed most (line.Node name statement) }
-    requires passes { spec.fault_after reader.stood (length (variables_of reader.variables)) reader.table.names (length reader.points) (line.Node name statement) ≡ None }
+    requires passes { spec.fault_after (known reader) (line.Node name statement) ≡ None }
     requires trees { AreTrees (spec.names_for reader.variables statement) (spec_line.texts_of statement) exprs }
     requires arguments { All (λ expr. greatest expr ≤ last_argument (spec.names_for reader.variables statement)) exprs }
     ensures { IfOk result (λ next. (earlier : List LineOf) → IsRead earlier reader → IsRead (line.Node name statement ∷ earlier) next) }
@@ -120,8 +99,17 @@ fn take_node(
     Ok(reader)
 }
 
+fn take_row(reader: Reader, columns: Items<u32>) -> Result<Reader, AllocError>
+    requires formed { (most : ℕ) × IsFormed most (line.Row columns) }
+    requires passes { spec.fault_after (known reader) (line.Row columns) ≡ None }
+    ensures { IfOk result (λ next. (earlier : List LineOf) → IsRead earlier reader → IsRead (line.Row columns ∷ earlier) next) }
+{
+    let reader = after_row(reader, columns)?;
+    Ok(reader)
+}
+
 fn take_output(reader: Reader, list: Name) -> Reader
-    requires passes { spec.fault_after reader.stood (length (variables_of reader.variables)) reader.table.names (length reader.points) (line.Output list) ≡ None }
+    requires passes { spec.fault_after (known reader) (line.Output list) ≡ None }
     ensures { (earlier : List LineOf) → IsRead earlier reader → IsRead (line.Output list ∷ earlier) result }
 {
     let output = source_named(&reader.table, list.bytes());
@@ -130,7 +118,7 @@ fn take_output(reader: Reader, list: Name) -> Reader
 }
 
 fn take_point(reader: Reader, entries: Items<u64>) -> Result<Reader, AllocError>
-    requires passes { spec.fault_after reader.stood (length (variables_of reader.variables)) reader.table.names (length reader.points) (line.Point entries) ≡ None }
+    requires passes { spec.fault_after (known reader) (line.Point entries) ≡ None }
     ensures { IfOk result (λ next. (earlier : List LineOf) → IsRead earlier reader → IsRead (line.Point entries ∷ earlier) next) }
 {
     let reader = after_point(reader, entries.as_slice())?;
@@ -139,21 +127,22 @@ fn take_point(reader: Reader, entries: Items<u64>) -> Result<Reader, AllocError>
 
 fn take_input(reader: Reader, names: Items<Name>) -> Reader
     requires formed { (most : ℕ) × IsFormed most (line.Input names) }
-    requires passes { spec.fault_after reader.stood (length (variables_of reader.variables)) reader.table.names (length reader.points) (line.Input names) ≡ None }
+    requires passes { spec.fault_after (known reader) (line.Input names) ≡ None }
     ensures { (earlier : List LineOf) → IsRead earlier reader → IsRead (line.Input names ∷ earlier) result }
 {
     after_input(reader, names)
 }
 
 fn take_graph(reader: Reader, name: Name) -> Reader
-    requires passes { spec.fault_after reader.stood (length (variables_of reader.variables)) reader.table.names (length reader.points) (line.Graph name) ≡ None }
+    requires formed { (most : ℕ) × IsFormed most (line.Graph name) }
+    requires passes { spec.fault_after (known reader) (line.Graph name) ≡ None }
     ensures { (earlier : List LineOf) → IsRead earlier reader → IsRead (line.Graph name ∷ earlier) result }
 {
     after_graph(reader, name)
 }
 
 fn take_flow(reader: Reader, _version: u64) -> Reader
-    requires passes { spec.fault_after reader.stood (length (variables_of reader.variables)) reader.table.names (length reader.points) (line.Flow _version) ≡ None }
+    requires passes { spec.fault_after (known reader) (line.Flow _version) ≡ None }
     ensures { (earlier : List LineOf) → IsRead earlier reader → IsRead (line.Flow _version ∷ earlier) result }
 {
     after_flow(reader)
@@ -162,7 +151,7 @@ fn take_flow(reader: Reader, _version: u64) -> Reader
 /// The reader after a line with which nothing is wrong, and whose expressions have these trees.
 fn take_in(reader: Reader, line: Line, exprs: Items<Expr>) -> Result<Reader, AllocError>
     requires formed { (most : ℕ) × IsFormed most line }
-    requires passes { spec.fault_after reader.stood (length (variables_of reader.variables)) reader.table.names (length reader.points) line ≡ None }
+    requires passes { spec.fault_after (known reader) line ≡ None }
     requires trees { AreTrees (names_in reader.variables line) (texts_in line) exprs }
     requires arguments { All (λ expr. greatest expr ≤ last_argument (names_in reader.variables line)) exprs }
     ensures { IfOk result (λ next. (earlier : List LineOf) → IsRead earlier reader → IsRead (line ∷ earlier) next) }
@@ -172,6 +161,7 @@ fn take_in(reader: Reader, line: Line, exprs: Items<Expr>) -> Result<Reader, All
         Line::Graph(name) => Ok(take_graph(reader, name)),
         Line::Input(names) => Ok(take_input(reader, names)),
         Line::Node(name, statement) => take_node(reader, name, statement, exprs),
+        Line::Row(columns) => take_row(reader, columns),
         Line::Output(list) => Ok(take_output(reader, list)),
         Line::Point(entries) => take_point(reader, entries),
     }

@@ -148,6 +148,58 @@ fn the_largest_system_is_read_for_learning(rt: HostRuntime) -> Result<(), Fail> 
 }
 
 #[test]
+fn rows_are_read_in_their_order(rt: HostRuntime) -> Result<(), Fail> {
+    let bytes =
+        b"flow 1\ngraph main\ninput x\nnode c eval input = 1 ; x ; 3 ; 4\nnode s sparse c 4096 want 4096 1\nrow 01\n# the second row\nrow 0 2 4096\nnode t chain s\noutput t\npoint 5\n";
+    let job = read(&rt, rt.alloc(), bytes)?;
+    let graph = job.graphs.get(0).expect(&rt, "the graph");
+    assert_eq!(rt; graph.nodes.len(), 3);
+    let node = graph.nodes.get(1).expect(&rt, "the node");
+    assert!(rt; node.needed);
+    let NodeKind::Sparse {
+        from,
+        unknowns,
+        want,
+        rows,
+    } = &node.kind
+    else {
+        return Err(Fail::from("another kind"));
+    };
+    assert_eq!(rt; (*from, *unknowns), (Source::Node(0), 4096));
+    assert_eq!(rt; want.as_slice(), [4096, 1].as_slice());
+    assert_eq!(rt; rows.len(), 2);
+    let row = rows.get(0).expect(&rt, "the first row");
+    assert_eq!(rt; row.columns.as_slice(), [1].as_slice());
+    let row = rows.get(1).expect(&rt, "the second row");
+    assert_eq!(rt; row.columns.as_slice(), [0, 2, 4096].as_slice());
+    Ok(())
+}
+
+#[test]
+fn entries_are_read_up_to_their_limit(rt: HostRuntime) -> Result<(), Fail> {
+    let mut bytes = Vec::from_slice(
+        rt.alloc(),
+        b"flow 1\ngraph main\ninput x\nnode s sparse input 4096\n",
+    )?;
+    for _turn in 0..16 {
+        bytes.extend_from_slice(b"row")?;
+        for column in 1..4097 {
+            let word = format!(in rt.alloc(); " {column}")?;
+            bytes.extend_from_slice(word.as_bytes())?;
+        }
+        bytes.extend_from_slice(b"\n")?;
+    }
+    let mut more = Vec::from_slice(rt.alloc(), bytes.as_slice())?;
+    bytes.extend_from_slice(b"output s\n")?;
+    let job = read(&rt, rt.alloc(), bytes.as_slice())?;
+    let graph = job.graphs.get(0).expect(&rt, "the graph");
+    assert_eq!(rt; graph.output, Source::Node(0));
+    more.extend_from_slice(b"row 0\n")?;
+    assert!(rt; is_refused(&rt, rt.alloc(), more.as_slice(), 21, FileKind::Limit));
+    Ok(())
+}
+
+#[test]
 fn the_input_may_be_the_output(rt: HostRuntime) -> Result<(), Fail> {
     let job = read(
         &rt,
@@ -181,7 +233,36 @@ fn lines_out_of_form_are_told(rt: HostRuntime) {
             4,
         ),
         (b"flow 1\ngraph main\ninput x\nnode r eval input x\n", 4),
-        (b"flow 1\ngraph main\ninput x\nnode r sparse input 1\n", 4),
+        (b"flow 1\ngraph main\ninput x\nnode r sparse input\n", 4),
+        (
+            b"flow 1\ngraph main\ninput x\nnode r sparse input 1\noutput r\n",
+            5,
+        ),
+        (
+            b"flow 1\ngraph main\ninput x\nnode r sparse input 1\nnode t chain r\n",
+            5,
+        ),
+        (
+            b"flow 1\ngraph main\ninput x\nnode r sparse input 1\nrow\n",
+            5,
+        ),
+        (
+            b"flow 1\ngraph main\ninput x\nnode r sparse input 1\nrow 1 1\n",
+            5,
+        ),
+        (
+            b"flow 1\ngraph main\ninput x\nnode r sparse input 2\nrow 2 02\n",
+            5,
+        ),
+        (
+            b"flow 1\ngraph main\ninput x\nnode r sparse input 2\nrow 10 9\n",
+            5,
+        ),
+        (b"flow 1\ngraph main\ninput x\nrow 1\n", 4),
+        (
+            b"flow 1\ngraph main\ninput x\nnode r chain input\nrow 1\n",
+            5,
+        ),
         (b"flow 1\ngraph main\ninput x\nnode r dense input 1\n", 4),
         (
             b"flow 1\ngraph main\ninput x\nnode r dense input 1 one\n",
@@ -335,6 +416,41 @@ fn the_first_kind_is_told_at_its_line(rt: HostRuntime) {
             FileKind::Missing,
         ),
         (b"flow 1", 1, FileKind::Missing),
+        (
+            b"flow 1\ngraph main\ninput x\nnode r sparse input 1\n",
+            5,
+            FileKind::Missing,
+        ),
+        (
+            b"flow 1\ngraph main\ninput x\nnode r sparse b 4097\n",
+            4,
+            FileKind::UnknownNode,
+        ),
+        (
+            b"flow 1\ngraph main\ninput x\nnode r sparse input 0\n",
+            4,
+            FileKind::Limit,
+        ),
+        (
+            b"flow 1\ngraph main\ninput x\nnode r sparse input 4097\n",
+            4,
+            FileKind::Limit,
+        ),
+        (
+            b"flow 1\ngraph main\ninput x\nnode r sparse input 2 want 3\n",
+            4,
+            FileKind::Limit,
+        ),
+        (
+            b"flow 1\ngraph main\ninput x\nnode r sparse input 1\nrow 0 2\n",
+            5,
+            FileKind::Limit,
+        ),
+        (
+            b"flow 1\ngraph main\ninput x\nnode r sparse input 1\nrow 4294967295 4294967296\n",
+            5,
+            FileKind::Limit,
+        ),
     ] {
         assert!(rt; is_refused(&rt, rt.alloc(), bytes, line, kind));
     }

@@ -13,6 +13,7 @@ use Rattle.graph_eval.specs.Fresh.{IsFreshAt}
 use Rattle.graph_eval.specs.Learned.{FailsLength, FitsGraph, has_solver, outputs_of, sets_of}
 use Rattle.learn_phase.specs.LearnedSets.{AllSingular, AnswersAt, AnswersFirst, AreSingular, BreaksLength, BreaksNeed, Broken, FirstLearn, GivesBehind, GraphLesson, LearnedSets, Learns, LearnsAtPoints, LearnsByRules, LearnsGraph, Lesson, MeetsNeed, NoPoint, Place, Taught, learning_modulus, output_node}
 use Rattle.learn_phase.specs.Points.{learning_point}
+use Rattle.graph_eval.proofs.OneLength.{learned_same}
 use Rattle.graph_eval.proofs.Places.{stands}
 use Rattle.learn_phase.proofs.Places.{same_lists}
 use Rattle.learn_phase.proofs.Taking.{behind}
@@ -22,6 +23,7 @@ pub record Laws : Type 0 where
   pub one_fresh : (m : ℕ) (graphs : List Graph) (learned : List (List (List ℕ))) (number : ℕ) (inputs : List ℕ) (a b : Fresh) → 1 < m → IsFreshAt m graphs learned number inputs a → IsFreshAt m graphs learned number inputs b → a ≡ b
   pub lengths : (graph : Graph) (a b : GraphLearned) → a.sets ≡ b.sets → FitsGraph graph a → FitsGraph graph b → a.lengths ≡ b.lengths
   pub output : (graph : Graph) (a b : GraphLearned) → a.sets ≡ b.sets → FitsGraph graph a → FitsGraph graph b → a.output ≡ b.output
+  pub plans : (graph : Graph) (a b : GraphLearned) → a.sets ≡ b.sets → FitsGraph graph a → FitsGraph graph b → a.plans ≡ b.plans
   pub sets : (graph : Graph) (a b : GraphLearned) → has_solver graph ≡ false → FitsGraph graph a → FitsGraph graph b → a.sets ≡ b.sets
   pub either : (graph : Graph) (a : GraphLearned) (n : ℕ) → has_solver graph ≡ false → FitsGraph graph a → FailsLength graph n → ⊥
   pub node : (graph : Graph) (n k : ℕ) → FailsLength graph n → FailsLength graph k → n ≡ k
@@ -29,12 +31,6 @@ pub record Laws : Type 0 where
 -- the answer isn't that a node has no value
 IsLast : Fresh → Type 0
 IsLast answer = (singular : Singular) → answer ≡ fresh.Singular singular → ⊥
-
-same_entry : (a b : GraphLearned) → a.point ≡ b.point → a.output ≡ b.output → a.lengths ≡ b.lengths → a.sets ≡ b.sets → a ≡ b
-same_entry a b point output lengths sets =
-    ap (λ p. record a { point = p }) point ∙ ap (λ o. record a { point = b.point; output = o }) output
-    ∙ ap (λ ls. record a { point = b.point; output = b.output; lengths = ls }) lengths
-    ∙ ap (λ ss. record b { sets = ss }) sets
 
 module _ (laws : Laws) (place : Place) (graph : Graph) (is : slice_get place.graphs place.number ≡ Some graph) where
   answer_once : (q : ℕ) (a b : Fresh) → AnswersAt place graph q a → AnswersAt place graph q b → a ≡ b
@@ -97,7 +93,7 @@ module _ (laws : Laws) (place : Place) (graph : Graph) (is : slice_get place.gra
   by_rules_once : (a b : GraphLesson) → has_solver graph ≡ false → LearnsByRules graph a → LearnsByRules graph b → a ≡ b
   by_rules_once (Taught x) (Taught y) plain first second =
       let sets = laws.sets graph x y plain first.1 second.1 in
-      ap Taught (same_entry x y (first.0 ∙ sym second.0) (laws.output graph x y sets first.1 second.1) (laws.lengths graph x y sets first.1 second.1) sets)
+      ap Taught (learned_same x y (first.0 ∙ sym second.0) (laws.output graph x y sets first.1 second.1) (laws.lengths graph x y sets first.1 second.1) sets (laws.plans graph x y sets first.1 second.1))
   by_rules_once (Taught x) (AllSingular ys) plain first second = absurd second
   by_rules_once (Taught x) (Broken n) plain first second = absurd (laws.either graph x n plain first.1 second)
   by_rules_once (AllSingular xs) b plain first second = absurd first

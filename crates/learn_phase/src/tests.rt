@@ -53,6 +53,15 @@ fn the_independent_unknowns_are_learned_at_the_first_point(rt: HostRuntime) -> R
 }
 
 #[test]
+fn sparse_rows_over_three_unknowns_are_told_by_the_last(rt: HostRuntime) -> Result<(), Fail> {
+    let text =
+        "flow 1\ngraph main\ninput d m\nnode c eval input = 4*m ; -(d-4) ; 2*m ; -(d-2)\nnode s sparse c 3 want 1\nrow 1 2\nrow 2 3\noutput s\n";
+    let learned = learn(rt.alloc(), &job_of(&rt, text, Need::Learning)?)?;
+    assert!(rt; is_entry(learned.graph(0), 0, 2, &[3]));
+    Ok(())
+}
+
+#[test]
 fn a_point_without_a_value_is_passed_over(rt: HostRuntime) -> Result<(), Fail> {
     let text = with_solver(rt.alloc(), "x - 487926954045984775 ; 1", "dense a 1 1")?;
     let job = job_of(&rt, text.as_str(), Need::Learning)?;

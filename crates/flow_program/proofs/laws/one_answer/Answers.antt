@@ -8,6 +8,6 @@ returns c =
       one_outcome = c.one_outcome.ensures;
       one_lesson = c.one_lesson.ensures;
       one_told = c.one_fault.ensures;
-      told_or_nothing = λ bytes n a bad good. c.no_fault.ensures bytes n a good bad;
+      told_or_nothing = λ need bytes n a bad good. c.no_fault.ensures need bytes n a good bad;
       one_form = c.one_form.ensures;
     } in one_run laws

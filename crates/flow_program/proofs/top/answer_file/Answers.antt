@@ -18,3 +18,4 @@ returns-in_ok-reply_to_file-in-Ok-read_all-clause-right g c =
     let opened = (g.H.Shelf.view c.open.new.self).rest in
     read_file c.args.task told opened bytes answer c.in-Ok.ensures.whole
     (λ rest is. c.as_slice.ensures.value ∙ c.in-Ok-read_all.ensures.whole rest is) (omega (arith, ap length c.as_slice.ensures.value, c.in-Ok-read_all.ensures.fits)) c.in_ok-reply_to_file-in-Ok-read_all.ensures.answer
+    c.in_ok-reply_to_file-in-Ok-read_all.ensures.bad_line

@@ -1,12 +1,12 @@
 -- Each node answers on the lists of those before it, whose lengths are the learned ones.
-use Rattle.std.proofs.Common.{◌≡◌, ℕ, ◌<◌, List, [], All, Result, Ok, Err, Some, length, map, take, get_or, sym, ◌∙◌, ap, subst, arith}
+use Rattle.std.proofs.Common.{◌≡◌, ℕ, ◌<◌, List, [], All, Result, Ok, Err, Some, None, length, map, take, get_or, sym, ◌∙◌, ap, subst, arith}
 use Rattle.std.specs.Prelude.{IfOk, IsTrue, OnErr}
 use Rattle.prime_field.specs.Modulus.{value_of}
 use Rattle.prime_field.specs.Residue.{IsPrime}
 use Rattle.graph_file.specs.Sound.{IsKind}
 use Rattle.graph_eval.specs.Evaluated.{NodeAnswers, no_graphs}
 use Rattle.graph_eval.specs.GraphValue.{named}
-use Rattle.graph_eval.specs.Learned.{IsSetFor, node_length}
+use Rattle.graph_eval.specs.Learned.{IsSetFor, node_length, plan_of}
 use Rattle.graph_eval.specs.declared.outcome.Cause.{Cause}
 use Rattle.graph_eval.proofs.EvaluationLaws.{goes_on, stops}
 use Rattle.graph_eval.proofs.Places.{index_at, read_at}
@@ -28,6 +28,17 @@ node_list-requires-clause-set c =
     let is = read_at c.as_slice-node-items.result.now c.args.graph.now.nodes place node c.as_slice-node-items.ensures c.loop-place-test.true c.node-item.is in
     let below : place < length c.as_slice-sets.result.now = omega (arith, c.requires.fits.many, ap length c.as_slice-node-items.ensures, ap length c.as_slice-sets.ensures) in
     subst (IsSetFor node) (index_at c.as_slice-sets.result.now c.args.learned.now.sets place c.index-sets-place.result [] c.as_slice-sets.ensures below c.index-sets-place.is ∙ sym c.as_slice-set.ensures) (c.requires.fits.sets place node is)
+
+pub node_list-requires-clause-plan : goal.node_list-requires-clause-plan
+node_list-requires-clause-plan c =
+    let place = c.loop-place.place in
+    let node = c.node-item.result in
+    let is = read_at c.as_slice-node-items.result.now c.args.graph.now.nodes place node c.as_slice-node-items.ensures c.loop-place-test.true c.node-item.is in
+    let below_sets : place < length c.as_slice-sets.result.now = omega (arith, c.requires.fits.many, ap length c.as_slice-node-items.ensures, ap length c.as_slice-sets.ensures) in
+    let below_plans : place < length c.as_slice-plans.result.now = omega (arith, c.requires.fits.plans.many, ap length c.as_slice-node-items.ensures, ap length c.as_slice-plans.ensures) in
+    let set_is = index_at c.as_slice-sets.result.now c.args.learned.now.sets place c.index-sets-place.result [] c.as_slice-sets.ensures below_sets c.index-sets-place.is ∙ sym c.as_slice-set.ensures in
+    let plan_is = index_at c.as_slice-plans.result.now c.args.learned.now.plans place c.index-plans-place.result None c.as_slice-plans.ensures below_plans c.index-plans-place.is in
+    c.as_ref-plan.ensures.value ∙ sym plan_is ∙ c.requires.fits.plans.each place node is ∙ ap (λ s. plan_of s node) set_is
 
 pub node_list-requires-clause-room : goal.node_list-requires-clause-room
 node_list-requires-clause-room c =

@@ -8,8 +8,8 @@ use Rattle.ratfun_text.specs.Value.{greatest}
 use Rattle.basic_nodes.specs.Plain.{chained}
 use Rattle.basic_nodes.proofs.Pieces.{chained_residues, taken_residues}
 use Rattle.graph_file.specs.Needed.{sources_of}
-use Rattle.graph_file.specs.Sound.{IsKind}
-use Rattle.graph_eval.specs.Evaluated.{IsAmong}
+use Rattle.graph_file.specs.Sound.{IsEarlier, IsKind}
+use Rattle.graph_file.proofs.KindFacts.{sound-dense}
 use Rattle.graph_eval.specs.GraphValue.{named}
 use Rattle.graph_eval.specs.Learned.{kind_length}
 use Rattle.graph_eval.specs.Reading.{HasLength, IsEntry}
@@ -46,7 +46,7 @@ write_taken-requires-clause-entries c =
 
 pub write_chained-requires-clause-there : goal.write_chained-requires-clause-there
 write_chained-requires-clause-there c =
-    All-same (IsAmong (length c.args.lists.now)) _ _ (c.as_slice-in-Chain.ensures ∙ ap sources_of (sym c.in-Chain.is)) (sources_sound (length c.args.inputs.now) (length c.args.lists.now) c.args.kind.now c.requires.sound)
+    All-same (IsEarlier (length c.args.lists.now)) _ _ (c.as_slice-in-Chain.ensures ∙ ap sources_of (sym c.in-Chain.is)) (sources_sound (length c.args.inputs.now) (length c.args.lists.now) c.args.kind.now c.requires.sound)
 
 pub write_chained-requires-clause-room : goal.write_chained-requires-clause-room
 write_chained-requires-clause-room c =
@@ -56,7 +56,7 @@ write_chained-requires-clause-room c =
 
 pub write_sum-requires-clause-there : goal.write_sum-requires-clause-there
 write_sum-requires-clause-there c =
-    All-same (IsAmong (length c.args.lists.now)) _ _ (c.as_slice-in-Sum.ensures ∙ ap sources_of (sym c.in-Sum.is)) (sources_sound (length c.args.inputs.now) (length c.args.lists.now) c.args.kind.now c.requires.sound)
+    All-same (IsEarlier (length c.args.lists.now)) _ _ (c.as_slice-in-Sum.ensures ∙ ap sources_of (sym c.in-Sum.is)) (sources_sound (length c.args.inputs.now) (length c.args.lists.now) c.args.kind.now c.requires.sound)
 
 pub write_sum-requires-clause-same : goal.write_sum-requires-clause-same
 write_sum-requires-clause-same c =
@@ -65,7 +65,7 @@ write_sum-requires-clause-same c =
 
 pub write_product-requires-clause-there : goal.write_product-requires-clause-there
 write_product-requires-clause-there c =
-    All-same (IsAmong (length c.args.lists.now)) _ _ (c.as_slice-in-Product.ensures ∙ ap sources_of (sym c.in-Product.is)) (sources_sound (length c.args.inputs.now) (length c.args.lists.now) c.args.kind.now c.requires.sound)
+    All-same (IsEarlier (length c.args.lists.now)) _ _ (c.as_slice-in-Product.ensures ∙ ap sources_of (sym c.in-Product.is)) (sources_sound (length c.args.inputs.now) (length c.args.lists.now) c.args.kind.now c.requires.sound)
 
 pub write_product-requires-clause-same : goal.write_product-requires-clause-same
 write_product-requires-clause-same c =
@@ -76,11 +76,12 @@ pub named-list-requires : goal.named-list-requires
 named-list-requires c = first_among (length c.args.inputs.now) (length c.args.lists.now) c.args.kind.now c.in-Dense.from [] (ap sources_of c.in-Dense.is) c.requires.sound
 
 pub write_solved-requires-clause-few : goal.write_solved-requires-clause-few
-write_solved-requires-clause-few c = omega (arith, (c.requires.sound.dense c.in-Dense.from c.in-Dense.rows c.in-Dense.unknowns c.in-Dense.want c.in-Dense.is).unknowns_high)
+write_solved-requires-clause-few c =
+    omega (arith, (sound-dense (length c.args.inputs.now) (length c.args.lists.now) c.args.kind.now c.requires.sound c.in-Dense.from c.in-Dense.rows c.in-Dense.unknowns c.in-Dense.want c.in-Dense.is).unknowns_high)
 
 pub write_solved-requires-clause-want : goal.write_solved-requires-clause-want
 write_solved-requires-clause-want c =
-    subst (AreUnknowns c.in-Dense.unknowns) (sym c.as_slice-in-Dense.ensures) (c.requires.sound.dense c.in-Dense.from c.in-Dense.rows c.in-Dense.unknowns c.in-Dense.want c.in-Dense.is).wanted
+    subst (AreUnknowns c.in-Dense.unknowns) (sym c.as_slice-in-Dense.ensures) (sound-dense (length c.args.inputs.now) (length c.args.lists.now) c.args.kind.now c.requires.sound c.in-Dense.from c.in-Dense.rows c.in-Dense.unknowns c.in-Dense.want c.in-Dense.is).wanted
 
 pub named-requires-in-Matmul : goal.named-requires-in-Matmul
 named-requires-in-Matmul c = first_among (length c.args.inputs.now) (length c.args.lists.now) c.args.kind.now c.in-Matmul.left (c.in-Matmul.right ∷ []) (ap sources_of c.in-Matmul.is) c.requires.sound

@@ -3,7 +3,7 @@ use Rattle.std.proofs.Common.{◌+◌, ◌<◌, [], ◌∷◌, length, get_or, s
 use Rattle.std.proofs.lemmas.List.Elements.{All-get_or, All-same}
 use Rattle.prime_field.specs.Modulus.{value_of}
 use Rattle.graph_file.specs.declared.graph.Source.TheVariants as source
-use Rattle.graph_eval.specs.Evaluated.{IsAmong}
+use Rattle.graph_file.specs.Sound.{IsEarlier}
 use Rattle.basic_nodes.specs.Plain.{multiplied}
 use Rattle.graph_eval.specs.GraphValue.{named}
 use Rattle.graph_eval.specs.Reading.{HasLength}
@@ -19,8 +19,8 @@ loop-part-init c =
 
 pub named-requires-in-loop-part : goal.named-requires-in-loop-part
 named-requires-in-loop-part c =
-    subst (IsAmong (length c.args.lists.now)) (sym (behind_first c.args.parts.now c.loop-part.part-index source.Input c.loop-part-test.true))
-    (All-get_or (IsAmong (length c.args.lists.now)) c.args.parts.now (c.loop-part.part-index + 1) source.Input (behind_below c.args.parts.now c.loop-part.part-index c.loop-part-test.true) c.requires.there)
+    subst (IsEarlier (length c.args.lists.now)) (sym (behind_first c.args.parts.now c.loop-part.part-index source.Input c.loop-part-test.true))
+    (All-get_or (IsEarlier (length c.args.lists.now)) c.args.parts.now (c.loop-part.part-index + 1) source.Input (behind_below c.args.parts.now c.loop-part.part-index c.loop-part-test.true) c.requires.there)
 
 pub product_into-requires-clause-lengths : goal.product_into-requires-clause-lengths
 product_into-requires-clause-lengths c =

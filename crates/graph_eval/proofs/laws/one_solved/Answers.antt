@@ -1,5 +1,5 @@
 -- The law, for every system.
-use Rattle.graph_eval.proofs.SystemLaws.{solved_once}
+use Rattle.elim_core.proofs.OwnSets.{solved_once}
 use Rattle.graph_eval.proofs.laws.one_solved.Goals as goal
 
 pub returns : goal.returns

@@ -2,12 +2,14 @@
 use Rattle.std.proofs.Common.{◌≡◌, ℕ, ◌+◌, ◌*◌, ◌-◌, ◌<◌, take, drop, get_or, sym, ◌∙◌, ap, subst, arith}
 use Rattle.prime_field.specs.Modulus.{value_of}
 use Rattle.prime_field.proofs.Moduli.{value_of-large}
-use Rattle.graph_eval.specs.Systems.{IsKept, rows_in}
-use Rattle.graph_eval.proofs.SystemLaws.{kept_start, kept_more, none_left, row_piece, row_residues}
+use Rattle.elim_core.specs.Solved.{IsKept}
+use Rattle.elim_core.proofs.KeptRows.{kept_start}
+use Rattle.graph_eval.specs.Systems.{rows_in}
+use Rattle.graph_eval.proofs.SystemLaws.{list_more, list_none, row_piece, row_residues}
 use Rattle.graph_eval.proofs.systems.absorb_rows.Goals as goal
 
 pub loop-place-init : goal.loop-place-init
-loop-place-init c = kept_start _ _ (value_of c.args.m) c.args.unknowns c.args.list.now (value_of-large c.args.m) c.start-elimination.ensures.belongs c.start-elimination.ensures.kind c.start-elimination.ensures.free
+loop-place-init c = kept_start _ _ (value_of c.args.m) c.args.unknowns (value_of-large c.args.m) c.start-elimination.ensures.belongs c.start-elimination.ensures.kind c.start-elimination.ensures.free
 
 pub absorb-requires-clause-belongs : goal.absorb-requires-clause-belongs
 absorb-requires-clause-belongs c = c.loop-place.invariant.belongs
@@ -23,12 +25,12 @@ absorb-requires-clause-residues c = λ k low.
 
 pub returns-in-Contradiction-clause-unsolvable : goal.returns-in-Contradiction-clause-unsolvable
 returns-in-Contradiction-clause-unsolvable c =
-    none_left c.loop-place.elimination c.absorb.new.self c.loop-place.words c.absorb.new.words (value_of c.args.m) c.args.unknowns c.loop-place.place c.args.list.now _ c.absorb.result c.loop-place.invariant c.absorb.ensures.absorbed
+    list_none c.loop-place.elimination c.absorb.new.self c.loop-place.words c.absorb.new.words (value_of c.args.m) c.args.unknowns c.loop-place.place c.args.list.now _ c.absorb.result c.loop-place.invariant c.absorb.ensures.absorbed
     (ap (λ n. take n (drop (c.loop-place.place * (c.args.unknowns + 1)) c.args.list.now)) (omega arith)) c.args.rows c.loop-place-test.true c.in-Contradiction.is
 
 pub loop-place-preserved : goal.loop-place-preserved
 loop-place-preserved c =
-    kept_more c.loop-place.elimination c.absorb.new.self c.loop-place.words c.absorb.new.words (value_of c.args.m) c.args.unknowns c.loop-place.place c.args.list.now _ c.absorb.result c.loop-place.invariant c.absorb.ensures.absorbed
+    list_more c.loop-place.elimination c.absorb.new.self c.loop-place.words c.absorb.new.words (value_of c.args.m) c.args.unknowns c.loop-place.place c.args.list.now _ c.absorb.result c.loop-place.invariant c.absorb.ensures.absorbed
     (ap (λ n. take n (drop (c.loop-place.place * (c.args.unknowns + 1)) c.args.list.now)) (omega arith)) c.absorb.ensures.belongs c.absorb.ensures.kind c.in_default.not-Contradiction
 
 pub returns-clause-kept : goal.returns-clause-kept

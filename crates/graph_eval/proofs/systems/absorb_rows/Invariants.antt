@@ -1,6 +1,7 @@
 -- The rows so far are kept.
 use Rattle.prime_field.specs.Modulus.{value_of}
-use Rattle.graph_eval.specs.Systems.{IsKept, rows_in}
+use Rattle.elim_core.specs.Solved.{IsKept}
+use Rattle.graph_eval.specs.Systems.{rows_in}
 use Rattle.graph_eval.proofs.systems.absorb_rows.Given as goal
 
 abbrev pub invariant-loop-place : goal.invariant-loop-place

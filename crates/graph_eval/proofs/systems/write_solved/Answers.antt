@@ -3,7 +3,8 @@ use Rattle.std.proofs.Common.{arith}
 use Rattle.prime_field.specs.Modulus.{value_of}
 use Rattle.prime_field.proofs.Moduli.{value_of-large}
 use Rattle.graph_eval.specs.Systems.{rows_in}
-use Rattle.graph_eval.proofs.SystemLaws.{solved_kept, undefined_kept, residues_kept, value_solvable}
+use Rattle.elim_core.proofs.KeptRows.{solved_kept, undefined_kept, residues_kept}
+use Rattle.elim_core.proofs.SameSolutions.{value_solvable}
 use Rattle.graph_eval.proofs.systems.write_solved.Goals as goal
 
 pub returns-in-Some-clause-solved : goal.returns-in-Some-clause-solved

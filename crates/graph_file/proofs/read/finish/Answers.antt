@@ -8,7 +8,7 @@ use Rattle.graph_file.proofs.JobLemmas.{read-earlier, job-sound, says-job, one-g
 use Rattle.graph_file.proofs.read.finish.Goals as goal
 
 pub marks-requires-clause-earlier : goal.marks-requires-clause-earlier
-marks-requires-clause-earlier c = read-earlier c.args.reader c.as_slice.result.now c.as_slice.ensures.value
+marks-requires-clause-earlier c = read-earlier c.args.reader c.as_slice.result.now c.requires c.as_slice.ensures.value
 
 pub invariant_of-result : goal.invariant_of-result
 invariant_of-result c =
@@ -26,4 +26,4 @@ returns-clause-said c =
     let marked : (k : ℕ) (node : Node) → slice_get c.marked_nodes-nodes.result.items k ≡ Some node → slice_get c.in_ok-flags.flags.items k ≡ Some node.needed = λ k node at. ap (λ (l : List Bool). slice_get l k) (sym c.as_slice-2.ensures.value) ∙ c.marked_nodes-nodes.ensures.marks k node at in
     says-job c.args.reader c.marked_nodes-nodes.result.items c.marked_nodes-nodes.ensures.names c.marked_nodes-nodes.ensures.kinds c.in-Some.name c.in-Some-output.output c.in_ok-flags.flags.items marks marked c.push.new.self
     (one-graph c.in-Some.name (variables_of c.args.reader.variables) c.listed.result c.marked_nodes-nodes.result.items c.from_vec.result c.in-Some-output.output c.new-graphs.result c.push.new.self c.new-graphs.ensures c.in_ok-push.ensures.ok c.listed.ensures c.from_vec.ensures)
-    c.in-Some.is c.in-Some-output.is
+    c.in-Some.is c.in-Some-output.is c.args.need

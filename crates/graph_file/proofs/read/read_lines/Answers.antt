@@ -9,7 +9,7 @@ use Rattle.graph_file.proofs.read.read_lines.Goals as goal
 pub returns-in-Err : goal.returns-in-Err
 returns-in-Err c =
     let left : drop c.loop-rest.place (lines c.args.bytes.now) ≡ c.cut.result.0.now ∷ pieces_behind 10 c.cut.result.1 = c.loop-rest.invariant.left ∙ ap (pieces_behind 10) c.in-Some.is ∙ c.cut.ensures.pieces in
-    refused-at c.args.bytes.now c.loop-rest.place c.in-Err.error.line c.in-Err.error.kind c.loop-rest.invariant.good
+    refused-at c.args._need c.args.bytes.now c.loop-rest.place c.in-Err.error.line c.in-Err.error.kind c.loop-rest.invariant.good
     (c.in-Err.ensures (lines c.args.bytes.now) (line-at (lines c.args.bytes.now) c.loop-rest.place c.cut.result.0.now (pieces_behind 10 c.cut.result.1) left).0 c.loop-rest.invariant.read)
 
 pub loop-rest-preserved : goal.loop-rest-preserved

@@ -8,6 +8,7 @@ returns c =
       one_fresh = c.one_fresh.ensures;
       lengths = c.one_length.ensures.lengths;
       output = c.one_length.ensures.output;
+      plans = c.one_length.ensures.plans;
       sets = c.one_length.ensures.sets;
       either = c.one_length.ensures.either;
       node = c.one_length.ensures.node;

@@ -1,0 +1,225 @@
+//! What a node learns on the lists before it.
+
+ghost use Rattle.std.specs.Prelude.{◌≡◌, ◌+◌, ◌*◌, ◌≤◌, ◌<◌, All, IfOk, IsTrue, None, OnErr, OnOk, Some, [], false, length, map, true};
+ghost use Rattle.prime_field.specs.Modulus.{value_of};
+ghost use Rattle.prime_field.specs.Residue.{IsPrime};
+ghost use Rattle.elim_core.specs.Kept.{HasSolution};
+ghost use Rattle.elim_core.specs.Solver.{AreUnknowns, IsAscending};
+ghost use Rattle.elim_core.specs.Sparse.{AreSparseRows, entries_of, rows_with};
+ghost use Rattle.graph_file.specs.Sound.{IsKind};
+ghost use Rattle.graph_eval.specs.Evaluated.{NodeAnswers, no_graphs};
+ghost use Rattle.graph_eval.specs.Fresh.{HasPlanOrFails, IsOwnOf, NodeLearns};
+ghost use Rattle.graph_eval.specs.GraphValue.{named};
+ghost use Rattle.graph_eval.specs.Learned.{IsSetFor, node_length, plan_of, plan_over};
+ghost use Rattle.graph_eval.specs.Systems.{rows_in, words_of};
+
+use crate::evaluation::node_list;
+use crate::kinds::named;
+use crate::outcome::Cause;
+use crate::shapes::entries_of;
+use crate::systems::own_set;
+use elim_core::SparseRow;
+use graph_file::{Node, NodeKind};
+use prime_field::Modulus;
+use ratfun_text::NoMemory;
+use sparse_solver::SparsePlan;
+use sqlite_items::Items;
+use std::alloc::Global;
+
+/// What a node learns on the lists before it.
+#[derive(Debug, Drop)]
+pub(crate) struct NodeLearned {
+    /// The independent unknowns of its own system; none where it isn't needed, where it solves no system, where the list
+    /// that it names hasn't as many entries as the system, or where the system has no solution.
+    pub(crate) set: Items<u32>,
+    /// The plan of a sparse system over this set.
+    pub(crate) plan: Option<SparsePlan>,
+    /// False where a sparse system has no plan, since it has no solution or not as many entries as it wants.
+    pub(crate) planned: bool,
+}
+
+/// What a node learns that has this set, and no plan.
+fn without_plan(set: Items<u32>) -> NodeLearned
+    ensures set { result.set ≡ set }
+    ensures plan { result.plan ≡ None }
+    ensures planned { result.planned ≡ true }
+{
+    NodeLearned {
+        set,
+        plan: None,
+        planned: true,
+    }
+}
+
+/// What a sparse system learns that has no plan.
+fn unplanned(alloc: Global) -> NodeLearned
+    ensures set { result.set ≡ [] }
+    ensures plan { result.plan ≡ None }
+    ensures planned { result.planned ≡ false }
+{
+    NodeLearned {
+        set: Items::new(alloc),
+        plan: None,
+        planned: false,
+    }
+}
+
+/// What a dense system learns: its independent unknowns, or nothing where the list hasn't its entries.
+fn dense_learned(
+    alloc: Global,
+    m: Modulus,
+    rows: usize,
+    unknowns: usize,
+    list: &[u64],
+    words: &mut [u64],
+) -> Result<Items<u32>, NoMemory>
+    requires few_rows { rows ≤ 512 }
+    requires few { unknowns ≤ 511 }
+    requires residues { All (λ x. x < value_of m) list.now }
+    requires room { (unknowns + 4) * (unknowns + 2) ≤ length words.old }
+    ensures own { IfOk result (λ set. IsPrime (value_of m) → IsOwnOf (value_of m) unknowns (rows * (unknowns + 1)) (rows_in rows unknowns list.now) list.now set) }
+    ensures ascending { IfOk result IsAscending }
+    ensures numbers { IfOk result (AreUnknowns unknowns) }
+{
+    if list.len() != rows * (unknowns + 1) {
+        return Ok(Items::new(alloc));
+    }
+    own_set(alloc, m, rows, unknowns, list, words)
+}
+
+/// The rows again.
+fn copied(alloc: Global, rows: &[SparseRow]) -> Result<Items<SparseRow>, NoMemory>
+    ensures { IfOk result (λ copy. copy ≡ rows.now) }
+{
+    let mut copy = Items::new(alloc);
+    for row in rows {
+        let columns = Items::from_slice(alloc, row.columns.as_slice())?;
+        copy.push(SparseRow { columns })?;
+    }
+    Ok(copy)
+}
+
+/// What a sparse system learns: its independent unknowns and its plan, or nothing where the list hasn't its entries or
+/// where it has no solution.
+fn sparse_learned(
+    alloc: Global,
+    m: Modulus,
+    unknowns: u32,
+    rows: &[SparseRow],
+    list: &[u64],
+) -> Result<NodeLearned, NoMemory>
+    requires some { 1 ≤ unknowns }
+    requires few { unknowns ≤ 4096 }
+    requires rows { AreSparseRows unknowns rows.now }
+    requires bounded { entries_of rows.now ≤ 65536 }
+    requires residues { All (λ x. x < value_of m) list.now }
+    ensures own { IfOk result (λ own. IsPrime (value_of m) → IsOwnOf (value_of m) unknowns (entries_of rows.now) (rows_with unknowns rows.now list.now) list.now own.set) }
+    ensures ascending { IfOk result (λ own. IsAscending own.set) }
+    ensures numbers { IfOk result (λ own. AreUnknowns unknowns own.set) }
+    ensures planned { IfOk result (λ own. own.planned ≡ true → own.plan ≡ Some (plan_over unknowns rows.now own.set)) }
+    ensures unsolvable { IfOk result (λ own. own.planned ≡ false → length list.now ≡ entries_of rows.now → IsPrime (value_of m)
+        → HasSolution (value_of m) unknowns (rows_with unknowns rows.now list.now) → ⊥) }
+{
+    if list.len() != entries_of(rows) {
+        return Ok(unplanned(alloc));
+    }
+    let mut plan = SparsePlan::new(alloc, unknowns, copied(alloc, rows)?)?;
+    let Some(set) = plan.learn(m, list)? else {
+        return Ok(unplanned(alloc));
+    };
+    Ok(NodeLearned {
+        set,
+        plan: Some(plan),
+        planned: true,
+    })
+}
+
+/// What a node learns on the lists before it: the independent unknowns of its own system, with its plan where it is sparse,
+/// or nothing where it isn't needed, where it solves no system, or where the list that it names hasn't as many entries as
+/// the system.
+pub(crate) fn learn_node(
+    alloc: Global,
+    m: Modulus,
+    node: &Node,
+    inputs: &[u64],
+    lists: &[Items<u64>],
+    words: &mut [u64],
+) -> Result<NodeLearned, NoMemory>
+    requires sound { IsKind (length inputs.now) (length lists.now) node.now.kind }
+    requires words { IsTrue node.now.needed → words_of node.now.kind ≤ length words.old }
+    requires residues { All (λ x. x < value_of m) inputs.now }
+    requires earlier { All (All (λ x. x < value_of m)) lists.now }
+    ensures own { IfOk result (λ own. IsPrime (value_of m) → NodeLearns (value_of m) (named inputs.now lists.now) node.now own.set) }
+    ensures fits { IfOk result (λ own. IsSetFor node.now own.set) }
+    ensures plan { IfOk result (HasPlanOrFails (value_of m) inputs.now lists.now node.now) }
+{
+    if !node.needed {
+        return Ok(without_plan(Items::new(alloc)));
+    }
+    match &node.kind {
+        NodeKind::Dense {
+            from,
+            rows,
+            unknowns,
+            ..
+        } => {
+            let list = named(inputs, lists, *from);
+            let (rows, unknowns) = (*rows as usize, *unknowns as usize);
+            let set = dense_learned(alloc, m, rows, unknowns, list, words)?;
+            Ok(without_plan(set))
+        }
+        NodeKind::Sparse {
+            from,
+            unknowns,
+            rows,
+            ..
+        } => {
+            let list = named(inputs, lists, *from);
+            let rows = rows.as_slice();
+            Ok(sparse_learned(alloc, m, *unknowns, rows, list)?)
+        }
+        _ => Ok(without_plan(Items::new(alloc))),
+    }
+}
+
+/// The list of a node over what it learned, which is empty where the node isn't needed, or the cause where it is needed and
+/// has no value.
+pub(crate) fn own_list(
+    alloc: Global,
+    m: Modulus,
+    node: &Node,
+    own: &NodeLearned,
+    count: usize,
+    inputs: &[u64],
+    lists: &[Items<u64>],
+    words: &mut [u64],
+) -> Result<Result<Items<u64>, Cause>, NoMemory>
+    requires sound { IsKind (length inputs.now) (length lists.now) node.now.kind }
+    requires set { IsSetFor node.now own.now.set }
+    requires plan { HasPlanOrFails (value_of m) inputs.now lists.now node.now own.now }
+    requires words { IsTrue node.now.needed → words_of node.now.kind ≤ length words.old }
+    requires residues { All (λ x. x < value_of m) inputs.now }
+    requires earlier { All (All (λ x. x < value_of m)) lists.now }
+    requires room { node_length (length inputs.now) (map length lists.now) own.now.set node.now ≡ Some count }
+    ensures value { IfOk result (λ list. IsPrime (value_of m) → NodeAnswers (value_of m) no_graphs own.now.set (named inputs.now lists.now) node.now list) }
+    ensures needed { IfOk result (λ list. OnErr list (IsTrue node.now.needed)) }
+    ensures length { IfOk result (λ list. IfOk list (λ xs. length xs ≡ count)) }
+    ensures residues { IfOk result (λ list. IfOk list (All (λ x. x < value_of m))) }
+    ensures planned { IfOk result (λ list. OnOk list (own.now.plan ≡ plan_of own.now.set node.now)) }
+{
+    if !own.planned {
+        return Ok(Err(Cause::System));
+    }
+    let plan = own.plan.as_ref();
+    node_list(
+        alloc,
+        m,
+        node,
+        own.set.as_slice(),
+        plan,
+        count,
+        inputs,
+        lists,
+        words,
+    )
+}
