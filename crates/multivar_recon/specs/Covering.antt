@@ -1,6 +1,7 @@
 -- Bounds whose products a grid covers, and how many monomials bounds have.
-use Rattle.std.specs.Prelude.{◌≡◌, ℕ, ◌+◌, ◌≤◌, ◌↔◌, List, AllPairs, Contains, length, slice_index}
+use Rattle.std.specs.Prelude.{◌≡◌, ℕ, ◌+◌, ◌-◌, ◌≤◌, ◌↔◌, min, List, [], ◌∷◌, AllPairs, Contains, slice_index, take}
 use Rattle.std.specs.declared.cmp.Ordering.TheVariants.{Less}
+use Rattle.prime_field.specs.Sum.{sum_to}
 use Rattle.poly_maps.specs.Bound.{IsMonomialWithin}
 use Rattle.poly_maps.specs.Mono.{mono_cmp, HasEight}
 use Rattle.poly_maps.specs.declared.bound.Bound.{Bound}
@@ -17,7 +18,16 @@ pub record ListsMonomials (b : Bound) (variables : ℕ) (es : List (List ℕ)) :
   pub ascending : AllPairs (λ e f. mono_cmp e f ≡ Less) es
   pub members : (e : List ℕ) → Contains es e ↔ IsMonomialWithin b variables e
 
+-- how many lists of exponents, each at most its entry, add up to `left` at most: the first exponent takes its share of
+-- `left`, and the others have the rest
+abbrev pub exponent_count : List ℕ → ℕ → ℕ
+exponent_count [] left = 1
+exponent_count (entry ∷ entries) left = sum_to (min entry left + 1) (λ k. exponent_count entries (left - k))
+
+-- how many monomials in the first `variables` variables are within the bound
+abbrev pub monomial_count : Bound → ℕ → ℕ
+monomial_count b variables = exponent_count (take variables b.each) b.total
+
 -- numerator and denominator have at most 1024 monomials together
 abbrev pub HasFew : Bounds → ℕ → Type 0
-HasFew b variables = (es fs : List (List ℕ)) → ListsMonomials b.num variables es → ListsMonomials b.den variables fs →
-    length es + length fs ≤ 1024
+HasFew b variables = monomial_count b.num variables + monomial_count b.den variables ≤ 1024

@@ -1,6 +1,6 @@
 //! The least pair that agrees with samples, by its coefficients.
 
-ghost use Rattle.std.specs.Prelude.{◌≡◌, ◌+◌, ℕ, ◌%◌, ◌<◌, ◌≤◌, ◌↔◌, All, IfNone, IfOk, IfSome, IsTrue, List, length, slice_index};
+ghost use Rattle.std.specs.Prelude.{◌≡◌, ◌+◌, ℕ, ◌%◌, ◌<◌, ◌≤◌, ◌↔◌, All, IfNone, IfOk, IfSome, IsTrue, List, length, min, slice_index};
 ghost use Rattle.prime_field.specs.Modulus.{value_of};
 ghost use Rattle.prime_field.specs.Residue.{IsPrime};
 ghost use Rattle.poly_maps.specs.declared.bound.Bound.{Bound};
@@ -9,7 +9,7 @@ ghost use Rattle.poly_maps.specs.Forcing.{IsForcing};
 ghost use Rattle.poly_maps.specs.Polynomial.{coefficient, AreResidues, IsPolynomial};
 ghost use Rattle.ray_grid.specs.Attempt.{attempt_points};
 ghost use Rattle.ray_grid.specs.Grid.{IsGrid, bound_of, point_count};
-ghost use Rattle.multivar_recon.specs.Covering.{Covers, HasFew};
+ghost use Rattle.multivar_recon.specs.Covering.{Covers, HasFew, exponent_count};
 ghost use Rattle.multivar_recon.specs.Least.{IsAgreeing, IsLeastPair, IsPairModulo};
 ghost use Rattle.multivar_recon.specs.Vectors.{with_numbers, num_of, den_of};
 
@@ -21,20 +21,36 @@ use ray_grid::{Grid, attempt};
 use std::alloc::Global;
 
 /// The most monomials that numerator and denominator may have together.
-const MOST_MONOMIALS: usize = 1024;
+const MOST_MONOMIALS: u32 = 1024;
 
-/// Whether numerator and denominator have at most 1024 monomials together, as [`fit`] asks. It lists them, so where they
-/// are many more it runs out of memory.
-pub fn has_few(alloc: Global, bounds: &Bounds, variables: u32) -> Result<bool, NoMemory>
-    requires some { 1 ≤ variables }
-    requires eight { variables ≤ 8 }
-    requires num_total { bounds.now.num.total ≤ 256 }
-    requires den_total { bounds.now.den.total ≤ 256 }
-    ensures { IfOk result (λ few. IsTrue few ↔ HasFew bounds.now variables) }
+/// Whether numerator and denominator have at most 1024 monomials together, as [`fit`] asks. It counts no further.
+pub fn has_few(bounds: &Bounds, variables: u32) -> bool
+    requires { variables ≤ 8 }
+    ensures { IsTrue result ↔ HasFew bounds.now variables }
 {
-    let nums = monomials(alloc, &bounds.num, variables)?;
-    let dens = monomials(alloc, &bounds.den, variables)?;
-    Ok(nums.len() + dens.len() <= MOST_MONOMIALS)
+    let used = variables as usize;
+    let most = MOST_MONOMIALS + 1;
+    let nums = count_exponents(&bounds.num.each[..used], bounds.num.total, most);
+    let dens = count_exponents(&bounds.den.each[..used], bounds.den.total, most);
+    nums + dens <= MOST_MONOMIALS
+}
+
+/// How many lists of exponents, each at most its entry, add up to `left` at most; `most` where they are more.
+fn count_exponents(entries: &[u32], left: u32, most: u32) -> u32
+    requires { most ≤ 1025 }
+    ensures { result ≡ min most (exponent_count entries.now left) }
+{
+    let [entry, others @ ..] = entries else {
+        return most.min(1);
+    };
+    let mut count = 0;
+    for k in 0..left.min(*entry) as u64 + 1 {
+        count += count_exponents(others, left - k as u32, most - count);
+        if count == most {
+            return count;
+        }
+    }
+    count
 }
 
 /// The polynomial with these coefficients at these monomials.

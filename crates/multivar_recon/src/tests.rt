@@ -62,7 +62,7 @@ fn zero_samples_give_zero_over_one(rt: HostRuntime) -> Result<(), Fail> {
     let points = attempt(rt.alloc(), &grid, 0)?;
     assert_eq!(rt; points.len(), 8);
     let values = samples(rt.alloc(), m, &points, &zero, &zero)?;
-    assert!(rt; has_few(rt.alloc(), &bounds, 2)?);
+    assert!(rt; has_few(&bounds, 2));
     let pair = fit(rt.alloc(), &bounds, &grid, 0, m, &values)?.expect(&rt, "zero agrees");
     assert!(rt; pair.num.terms().is_empty());
     assert_eq!(rt; pair.den.terms(), [(power(0, 0, 0), 1)].as_slice());
@@ -97,7 +97,7 @@ fn a_common_factor_is_not_kept(rt: HostRuntime) -> Result<(), Fail> {
     let points = attempt(rt.alloc(), &grid, 0)?;
     assert_eq!(rt; points.len(), 48);
     let values = samples(rt.alloc(), m, &points, &num, &den)?;
-    assert!(rt; has_few(rt.alloc(), &bounds, 2)?);
+    assert!(rt; has_few(&bounds, 2));
     let pair = fit(rt.alloc(), &bounds, &grid, 0, m, &values)?.expect(&rt, "x + y agrees");
     assert_eq!(rt;
         pair.num.terms(),
@@ -133,7 +133,7 @@ fn a_pole_is_no_polynomial(rt: HostRuntime) -> Result<(), Fail> {
     den.add_term(m, power(0, 1, 0), m.value() - 1)?;
     let points = attempt(rt.alloc(), &grid, 0)?;
     let values = samples(rt.alloc(), m, &points, &num, &den)?;
-    assert!(rt; has_few(rt.alloc(), &bounds, 2)?);
+    assert!(rt; has_few(&bounds, 2));
     assert!(rt; fit(rt.alloc(), &bounds, &grid, 0, m, &values)?.is_none());
     Ok(())
 }
@@ -164,7 +164,7 @@ fn a_function_of_three_variables(rt: HostRuntime) -> Result<(), Fail> {
         let points = attempt(rt.alloc(), &grid, 1)?;
         assert_eq!(rt; points.len(), 63);
         let values = samples(rt.alloc(), m, &points, &num, &den)?;
-        assert!(rt; has_few(rt.alloc(), &bounds, 3)?);
+        assert!(rt; has_few(&bounds, 3));
         let pair = fit(rt.alloc(), &bounds, &grid, 1, m, &values)?.expect(&rt, "it agrees");
         assert_eq!(rt; pair.num.terms(), num.terms());
         assert_eq!(rt; pair.den.terms(), den.terms());
@@ -183,11 +183,71 @@ fn a_constant_at_one_point(rt: HostRuntime) -> Result<(), Fail> {
         num: bound,
         den: bound,
     };
-    assert!(rt; has_few(rt.alloc(), &bounds, 1)?);
+    assert!(rt; has_few(&bounds, 1));
     let pair = fit_points(rt.alloc(), &bounds, 1, &[Point::of(&[7])], m, &[5])?.expect(
         &rt, "5 agrees",
     );
     assert_eq!(rt; pair.num.terms(), [(power(0, 0, 0), 5)].as_slice());
     assert_eq!(rt; pair.den.terms(), [(power(0, 0, 0), 1)].as_slice());
+    Ok(())
+}
+
+#[test]
+fn as_many_monomials_as_may_be(rt: HostRuntime) -> Result<(), Fail> {
+    let one = Bound {
+        total: 0,
+        each: [0; 8],
+    };
+    // up to degree 5 in 7 variables there are 792 monomials, in 8 variables 1287
+    let wide = Bound {
+        total: 5,
+        each: [256; 8],
+    };
+    assert!(rt;
+        has_few(
+            &Bounds {
+                num: wide,
+                den: one
+            },
+            7
+        )
+    );
+    assert!(rt;
+        !has_few(
+            &Bounds {
+                num: wide,
+                den: one
+            },
+            8
+        )
+    );
+    // 1023 and 1 are few, 1024 and 1 too many
+    let row = |total: u32| Bound {
+        total,
+        each: [1023, 0, 0, 0, 0, 0, 0, 0],
+    };
+    assert!(rt;
+        has_few(
+            &Bounds {
+                num: row(1022),
+                den: one
+            },
+            1
+        )
+    );
+    assert!(rt;
+        !has_few(
+            &Bounds {
+                num: one,
+                den: row(1023)
+            },
+            1
+        )
+    );
+    let all = Bound {
+        total: 256,
+        each: [256; 8],
+    };
+    assert!(rt; !has_few(&Bounds { num: all, den: all }, 8));
     Ok(())
 }

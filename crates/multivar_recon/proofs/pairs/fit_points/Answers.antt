@@ -1,11 +1,12 @@
-use Rattle.std.proofs.Common.{◌≡◌, ◌%◌, ◌++◌, List, ℕ, length, take, drop, sym, ◌∙◌, ap, subst, arith}
+use Rattle.std.proofs.Common.{◌≡◌, ◌%◌, ◌++◌, ◌≤◌, List, ℕ, length, take, drop, sym, ◌∙◌, ap, subst, arith}
 use Rattle.std.proofs.lemmas.List.{length-append}
 use Rattle.prime_field.specs.Modulus.{value_of}
 use Rattle.prime_field.specs.Residue.{IsPrime}
 use Rattle.prime_field.proofs.Moduli.{value_of-large}
 use Rattle.poly_maps.specs.Polynomial.{coefficient}
-use Rattle.multivar_recon.specs.Covering.{ListsMonomials}
+use Rattle.multivar_recon.specs.Covering.{ListsMonomials, monomial_count}
 use Rattle.multivar_recon.specs.Vectors.{num_of, den_of, IsLeastVector, IsForced, NoneAgrees}
+use Rattle.multivar_recon.proofs.Counted.{listed_few}
 use Rattle.multivar_recon.proofs.Listed.{front_of, back_of}
 use Rattle.multivar_recon.proofs.PairVectors.{least_pair, no_pair, forced}
 use Rattle.multivar_recon.proofs.pairs.fit_points.Goals as goal
@@ -18,7 +19,10 @@ null_vector-requires-clause-few c =
     c.deref-3.ensures.value ∙ c.in_ok-extend_from_slice.ensures.items ∙ ap (λ xs. xs ++ c.deref-2.result.now) (c.in_ok-monos.ensures.items ∙ c.deref.ensures.value) ∙ ap (λ xs. es ++ xs) c.deref-2.ensures.value in
     let e_lists : ListsMonomials c.args.bounds.now.num c.args.variables es = record { ascending = c.in_ok-nums.ensures.ascending; members = c.in_ok-nums.ensures.members } in
     let f_lists : ListsMonomials c.args.bounds.now.den c.args.variables fs = record { ascending = c.in_ok-dens.ensures.ascending; members = c.in_ok-dens.ensures.members } in
-    omega (arith, ap length whole, length-append es fs, c.requires.few es fs e_lists f_lists)
+    let b = c.args.bounds.now in
+    let e_count : length es ≤ monomial_count b.num c.args.variables = listed_few b.num c.args.variables es c.requires.eight e_lists in
+    let f_count : length fs ≤ monomial_count b.den c.args.variables = listed_few b.den c.args.variables fs c.requires.eight f_lists in
+    omega (arith, ap length whole, length-append es fs, e_count, f_count, c.requires.few)
 
 pub returns-in-Some-clause-least : goal.returns-in-Some-clause-least
 returns-in-Some-clause-least c =
