@@ -1,5 +1,5 @@
 -- Places in a list of bytes, and the pieces between them.
-use Rattle.std.proofs.Common.{◌≡◌, ◌<◌, ◌≤◌, ◌+◌, ◌-◌, ℕ, Bool, true, false, cond, refl, ap, ◌∙◌, List, [], ◌∷◌, length, take, drop, arith, Some, None, unwrap_or, nat_lt, not}
+use Rattle.std.proofs.Common.{◌≡◌, ◌<◌, ◌≤◌, ◌+◌, ◌-◌, ℕ, Bool, true, false, cond, refl, ap, ◌∙◌, List, [], ◌∷◌, length, take, drop, map, arith, Some, None, unwrap_or, nat_lt, not}
 use Rattle.std.specs.List.{position, position_or_len, slice_split}
 use Rattle.std.proofs.lemmas.List.{length-drop}
 use Rattle.std.proofs.lemmas.List.Sums.{prefix_len-le-length, fails_before_first}
@@ -17,7 +17,7 @@ from_test : (b : Bool) (n m : ℕ) → nat_lt n m ≡ b → n ≤ m → unwrap_o
 from_test true n m test within = refl
 from_test false n m test within = grind (arith, nat_tests)
 
-pub unwrap_or-position : (p : ℕ → Bool) (xs : List ℕ) → unwrap_or (position p xs) (length xs) ≡ position_or_len p xs
+pub unwrap_or-position : {X : Type 0} (p : X → Bool) (xs : List X) → unwrap_or (position p xs) (length xs) ≡ position_or_len p xs
 unwrap_or-position p xs = from_test _ (position_or_len p xs) (length xs) refl (prefix_len-le-length _ xs)
 
 place_from : (b : Bool) (n m k : ℕ) → nat_lt n m ≡ b → cond b (Some n) None ≡ Some k → (k ≡ n) × (n < m)
@@ -53,3 +53,8 @@ pub after_word-is : (line from : List ℕ) (start end : ℕ) → start ≡ posit
 after_word-is line from start end starts cut ends =
     let same : from ≡ trim_start line = cut ∙ ap (λ k. drop k line) starts in
     take-drop end from ∙ ap (λ k. drop k from) ends ∙ ap from_blank same
+
+-- the place of an element that was made of another
+pub position_or_len-map : {X Y : Type 0} (test : Y → Bool) (f : X → Y) (xs : List X) → position_or_len (λ x. test (f x)) xs ≡ position_or_len test (map f xs)
+position_or_len-map test f [] = refl
+position_or_len-map test f (x ∷ xs) = ap (λ n. cond (not (test (f x))) (1 + n) 0) (position_or_len-map test f xs)

@@ -11,13 +11,15 @@ use Rattle.graph_file.proofs.KindLemmas.{IsCons, cons_of}
 use Rattle.graph_file.proofs.Passes.{both}
 use Rattle.std.proofs.lemmas.Bool.Decides.{nat_tests}
 use Rattle.graph_file.specs.Lines.{after_word, after_words, is_plain, words}
+use Rattle.graph_file.specs.declared.line.Degrees.{Degrees}
+use Rattle.graph_file.specs.declared.line.Which.{Which}
 use Rattle.graph_file.specs.declared.line.Line.{Line}
 use Rattle.graph_file.specs.declared.line.Line.TheVariants.{Flow, Graph, Input, Node, Row, Point}
 use Rattle.graph_file.specs.declared.line.Statement.{Statement}
 use Rattle.graph_file.specs.declared.line.Statement.TheVariants.{Eval, Take, Matmul}
 use Rattle.graph_file.specs.declared.line.Want.{Want}
 use Rattle.graph_file.specs.declared.line.Want.TheVariants.{Numbers}
-use Rattle.graph_file.specs.Line.{all_of, entry_of, size_of, flow_line, graph_line, input_line, output_line, point_line, eval_node, take_node, part_before, parts_of, slice_node, slice_from, chain_node, sum_node, product_node, matmul_node, sides_of, numbers_wanted, want_of, dense_from, dense_node, sparse_from, sparse_node, are_less, are_ascending, row_line, statement_of, node_line, line_of_words, line_of}
+use Rattle.graph_file.specs.Line.{both_degrees, bounds_from, bounds_line, coeff_from, coeff_line, which_of, wide_of, all_of, entry_of, size_of, flow_line, graph_line, input_line, output_line, point_line, eval_node, take_node, part_before, parts_of, slice_node, slice_from, chain_node, sum_node, product_node, matmul_node, sides_of, numbers_wanted, want_of, dense_from, dense_node, sparse_from, sparse_node, are_less, are_ascending, row_line, statement_of, node_line, line_of_words, line_of}
 
 chosen : {A : Type 0} (P : A → Type 0) (b : Bool) (x y : Option A) → IfSome x P → IfSome y P → IfSome (cond b x y) P
 chosen P true x y first second = first
@@ -180,6 +182,27 @@ module _ (n : ℕ) where
   points [] = tt
   points (entry ∷ entries) = made (IsFormed n) Point (all_of (map entry_of (entry ∷ entries))) (λ a. tt)
 
+  bounds_made : (outputs : Option Which) (degrees : Option (Degrees × Degrees)) → IfSome (bounds_from outputs degrees) (IsFormed n)
+  bounds_made None degrees = tt
+  bounds_made (Some outputs) None = tt
+  bounds_made (Some outputs) (Some degrees) = tt
+
+  bounds : (words : List (List ℕ)) → IfSome (bounds_line words) (IsFormed n)
+  bounds [] = tt
+  bounds (a ∷ []) = tt
+  bounds (outputs ∷ num ∷ later) = tested (IsFormed n) (bytes_eq num (codes "num")) _ (λ is. bounds_made (which_of outputs) (both_degrees later))
+
+  coeff_made : (num den : Option ℕ) → IfSome (coeff_from num den) (IsFormed n)
+  coeff_made None den = tt
+  coeff_made (Some num) None = tt
+  coeff_made (Some num) (Some den) = tt
+
+  coeffs : (words : List (List ℕ)) → IfSome (coeff_line words) (IsFormed n)
+  coeffs [] = tt
+  coeffs (num ∷ []) = tt
+  coeffs (num ∷ den ∷ []) = coeff_made (wide_of num) (wide_of den)
+  coeffs (a ∷ b ∷ c ∷ later) = tt
+
 evals : (line : List ℕ) (words : List (List ℕ)) → IfSome (eval_node line words) (IsWhole (length line + 1))
 evals line [] = tt
 evals line (from ∷ []) = tt
@@ -218,7 +241,9 @@ by_words line (first ∷ later) =
     (chosen (IsFormed n) (bytes_eq first (codes "node")) _ _ (nodes line later)
     (chosen (IsFormed n) (bytes_eq first (codes "row")) _ _ (rows n later)
     (chosen (IsFormed n) (bytes_eq first (codes "output")) _ _ (outputs n later)
-    (chosen (IsFormed n) (bytes_eq first (codes "point")) _ None (points n later) tt))))))
+    (chosen (IsFormed n) (bytes_eq first (codes "point")) _ _ (points n later)
+    (chosen (IsFormed n) (bytes_eq first (codes "bounds")) _ _ (bounds n later)
+    (chosen (IsFormed n) (bytes_eq first (codes "coeff")) _ None (coeffs n later) tt))))))))
 
 -- what a line says fits its pattern
 pub line-formed : (line : List ℕ) → IfSome (line_of line) (IsFormed (length line + 1))

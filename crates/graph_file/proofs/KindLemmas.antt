@@ -11,7 +11,9 @@ use Rattle.ratfun_text.specs.Names.{last_argument}
 use Rattle.ratfun_text.specs.Value.{greatest}
 use Rattle.ratfun_text.specs.declared.expr.Expr.{Expr}
 use Rattle.ratfun_text.specs.declared.names.Names.TheVariants.{Listed, Numbered}
-use Rattle.graph_file.specs.Faults.{are_sides, is_counted, is_in_range, is_known, is_position, is_product, is_range, is_system, is_want, lists_in, node_stood, unknowns_of, names_in, names_over}
+use Rattle.graph_file.specs.Facts.{unknowns_of}
+use Rattle.graph_file.specs.Faults.{are_sides, is_counted, is_in_range, is_known, is_position, is_product, is_range, is_system, is_want, lists_in, names_in, names_over}
+use Rattle.graph_file.specs.Reader.{node_stood}
 use Rattle.graph_file.specs.Formed.{IsWant, IsWhole}
 use Rattle.graph_file.specs.Line.{all_of, texts_in}
 use Rattle.graph_file.specs.Says.{AreTrees, kind_of, part_named, source_named, wanted}

@@ -1,6 +1,7 @@
 mod AllOf
 mod Capped
 mod CutLemmas
+mod DegreeLemmas
 mod ExprLemmas
 mod Formed
 mod MarkLemmas
@@ -12,7 +13,11 @@ mod KindLemmas
 mod Less
 pub mod KindFacts
 mod TakeLemmas
+mod StepLemmas
+mod BoundLemmas
 mod FileLemmas
 mod JobLemmas
+mod SaidBounds
+mod SaidNames
 mod OneForm
 pub mod Needs

@@ -18,10 +18,14 @@ use Rattle.graph_file.specs.declared.graph.Node.{Node}
 use Rattle.graph_file.specs.declared.graph.NodeKind.{NodeKind}
 use Rattle.graph_file.specs.declared.graph.Source.{Source}
 use Rattle.graph_file.specs.declared.job.Need.{Need}
+use Rattle.graph_file.specs.declared.job.Special.{Special}
+use Rattle.poly_maps.specs.declared.bound.Bounds.{Bounds}
+use Rattle.rational_lift.specs.declared.coeff.Coeff.{Coeff}
 use Rattle.graph_file.specs.declared.line.Line.{Line}
 use Rattle.graph_file.specs.declared.line.Line.TheVariants as line
 use Rattle.graph_file.specs.declared.line.Statement.{Statement}
-use Rattle.graph_file.specs.Faults.{HasNoRefusal, HasRefusal, IsBadLine, IsGoodLine, IsRefused, fault, names_in, node_names_in, variables_in}
+use Rattle.graph_file.specs.Faults.{HasNoRefusal, HasRefusal, IsBadLine, IsGoodLine, IsRefused, fault, names_in}
+use Rattle.graph_file.specs.Facts.{node_names_in, variables_in}
 use Rattle.graph_file.specs.File.{IsBadAt, IsCutOff, IsFirstBad, IsFirstBadLine, IsGoodAt, IsGoodFile, IsTold, said}
 use Rattle.graph_file.specs.Line.{line_of, texts_in}
 use Rattle.graph_file.specs.Lines.{lines}
@@ -114,11 +118,11 @@ same_at all place k l a b =
     same_line (said (take place all)) (line_of b.line) k l (subst (λ (t : List ℕ). IsBadLine (said (take place all)) (line_of t) k) same a.bad) b.bad
 
 -- what is told of a file is the first bad line, or that it is cut off
-record IsEnd (all : List (List ℕ)) (number : ℕ) (told : FileKind) : Type 0 where
+record IsEnd (need : Need) (all : List (List ℕ)) (number : ℕ) (told : FileKind) : Type 0 where
   is : told ≡ kind.Missing
-  cut : IsCutOff all number
+  cut : IsCutOff need all number
 
-told_view : (need : Need) (all : List (List ℕ)) (number : ℕ) (told : FileKind) → IsTold need all number told → IsFirstBadLine all number told ⊎ IsEnd all number told
+told_view : (need : Need) (all : List (List ℕ)) (number : ℕ) (told : FileKind) → IsTold need all number told → IsFirstBadLine all number told ⊎ IsEnd need all number told
 told_view need all number kind.Syntax told = inl told
 told_view need all number kind.Version told = inl told
 told_view need all number kind.Repeated told = inl told
@@ -147,18 +151,18 @@ one-told need bytes m n k l a b =
     ⊎_elim
     (λ (first : IsFirstBadLine all m k). ⊎_elim
     (λ (second : IsFirstBadLine all n l). same_first all m n k l first second)
-    (λ (second : IsEnd all n l). absurd (bad_in_good all m k first second.cut.good))
+    (λ (second : IsEnd need all n l). absurd (bad_in_good all m k first second.cut.good))
     (told_view need all n l b))
-    (λ (first : IsEnd all m k). ⊎_elim
+    (λ (first : IsEnd need all m k). ⊎_elim
     (λ (second : IsFirstBadLine all n l). absurd (bad_in_good all n l second first.cut.good))
-    (λ (second : IsEnd all n l). (first.cut.counted ∙ sym second.cut.counted, first.is ∙ sym second.is))
+    (λ (second : IsEnd need all n l). (first.cut.counted ∙ sym second.cut.counted, first.is ∙ sym second.is))
     (told_view need all n l b))
     (told_view need all m k a)
 
 pub none-told : (need : Need) (bytes : List ℕ) (n : ℕ) (k : FileKind) → IsGoodFile need bytes → IsFirstBad need bytes n k → ⊥
 none-told need bytes n k good bad = ⊎_elim
     (λ (first : IsFirstBadLine (lines bytes) n k). bad_in_good (lines bytes) n k first good.good)
-    (λ (first : IsEnd (lines bytes) n k). let never : true ≡ false = sym good.ended ∙ first.cut.ended in cc)
+    (λ (first : IsEnd need (lines bytes) n k). let never : true ≡ false = sym good.complete ∙ first.cut.lacks in cc)
     (told_view need (lines bytes) n k bad)
 
 -- one list of trees for a list of texts
@@ -190,6 +194,8 @@ same_kinds (line.Node name statement ∷ before) a b x y =
 same_kinds (line.Row columns ∷ before) a b x y = x.1.0 ∙ ap (last_with_row (record { columns = columns })) (same_kinds before x.0 y.0 x.1.1 y.1.1) ∙ sym y.1.0
 same_kinds (line.Output list ∷ before) a b x y = same_kinds before a b x y
 same_kinds (line.Point entries ∷ before) a b x y = same_kinds before a b x y
+same_kinds (line.Bounds outputs num den ∷ before) a b x y = same_kinds before a b x y
+same_kinds (line.Coeff num den ∷ before) a b x y = same_kinds before a b x y
 
 -- nodes are the same where their names, kinds and marks are
 same_nodes : (a b : List Node) → names_of a ≡ names_of b → kinds_of a ≡ kinds_of b → ((k : ℕ) (x y : Node) → slice_get a k ≡ Some x → slice_get b k ≡ Some y → x.needed ≡ y.needed) → a ≡ b
@@ -230,5 +236,9 @@ same_graph all a b x y =
 pub one-form : (need : Need) (bytes : List ℕ) (f g : FileForm) → Says need bytes f → Says need bytes g → f ≡ g
 one-form need bytes f g x y =
     let graphs : f.graphs ≡ g.graphs = x.only ∙ ap (λ (a : Graph). a ∷ []) (same_graph (said (lines bytes)) x.graph y.graph x.says_graph y.says_graph) ∙ sym y.only in
-    let make : List Graph → List (List ℕ) → FileForm = λ gs ps. record { graphs = gs; points = ps } in
-    ap (λ gs. make gs f.points) graphs ∙ ap (make g.graphs) (x.points_are ∙ sym y.points_are)
+    let make : List Graph → List (List ℕ) → Option Bounds → List Special → Coeff → FileForm = λ gs ps a s c. record { graphs = gs; points = ps; all = a; special = s; coeff = c } in
+    ap (λ gs. make gs f.points f.all f.special f.coeff) graphs
+    ∙ ap (λ ps. make g.graphs ps f.all f.special f.coeff) (x.points_are ∙ sym y.points_are)
+    ∙ ap (λ a. make g.graphs g.points a f.special f.coeff) (x.all_is ∙ sym y.all_is)
+    ∙ ap (λ s. make g.graphs g.points g.all s f.coeff) (x.special_are ∙ sym y.special_are)
+    ∙ ap (make g.graphs g.points g.all g.special) (x.coeff_is ∙ sym y.coeff_is)

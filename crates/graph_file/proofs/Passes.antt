@@ -10,15 +10,18 @@ use Rattle.graph_file.specs.declared.error.FileKind.TheVariants.{Syntax, Version
 use Rattle.graph_file.specs.declared.line.Last.{Last}
 use Rattle.graph_file.specs.declared.line.Last.TheVariants as last
 use Rattle.graph_file.specs.declared.line.Line.{Line}
-use Rattle.graph_file.specs.declared.line.Line.TheVariants.{Flow, Graph, Input, Node, Row, Output, Point}
+use Rattle.graph_file.specs.declared.line.Degrees.{Degrees}
+use Rattle.graph_file.specs.declared.line.Which.{Which}
+use Rattle.graph_file.specs.declared.line.Line.TheVariants.{Flow, Graph, Input, Node, Row, Output, Point, Bounds, Coeff}
 use Rattle.graph_file.specs.declared.line.Statement.{Statement}
-use Rattle.graph_file.specs.Faults.{Known, are_columns, are_new, fault_after, fits, is_entry, is_limit, is_repeated, is_residue, is_short, is_syntax, is_unknown_node, is_version, may_stand}
-use Rattle.graph_file.specs.File.{has_output}
+use Rattle.graph_file.specs.declared.line.Statement.TheVariants.{Eval, Take, Slice, Chain, Sum, Product, Matmul, Dense, Sparse}
+use Rattle.graph_file.specs.Facts.{entries_in, has_output, points_in, unknowns_in, variables_in}
+use Rattle.graph_file.specs.Faults.{are_columns, are_new, fault_after, fits, goes_on, is_entry, is_limit, is_repeated, is_residue, is_row_line, is_short, is_syntax, is_unknown_node, is_version, may_stand, takes_rows}
 use Rattle.poly_maps.specs.Point.{IsPoint}
 use Rattle.elim_core.specs.Solver.{IsAscending}
 use Rattle.elim_core.specs.Sparse.{IsSparseRow}
 use Rattle.graph_file.specs.Formed.{Ascend}
-use Rattle.graph_file.specs.Reader.{AreVariables, has_input, has_name, has_rows}
+use Rattle.graph_file.specs.Reader.{AreVariables, has_input, has_name, has_rows, is_ended, last_of, node_stood, stands_behind}
 
 pub both : (a b : Bool) → (a && b) ≡ true → (a ≡ true) × (b ≡ true)
 both true b e = (refl, e)
@@ -37,24 +40,24 @@ next true kind later e = cc
 next false kind later e = (refl, e)
 
 -- each test is passed
-pub record Passes (known : Known) (line : Line) : Type 0 where
-  pub stands : may_stand known.stood line ≡ true
-  pub fitting : fits known line ≡ true
+pub record Passes (earlier : List Line) (line : Line) : Type 0 where
+  pub stands : may_stand earlier line ≡ true
+  pub fitting : fits earlier line ≡ true
   pub first : is_version line ≡ false
-  pub is_new : is_repeated known line ≡ false
-  pub lists : is_unknown_node known line ≡ false
+  pub is_new : is_repeated earlier line ≡ false
+  pub lists : is_unknown_node earlier line ≡ false
   pub residues : is_residue line ≡ false
-  pub limits : is_limit known line ≡ false
+  pub limits : is_limit earlier line ≡ false
 
-pub passes : (known : Known) (line : Line) → fault_after known line ≡ None → Passes known line
-passes known line e =
-    let (syntax, after_syntax) = next (is_syntax known line) Syntax _ e in
+pub passes : (earlier : List Line) (line : Line) → fault_after earlier line ≡ None → Passes earlier line
+passes earlier line e =
+    let (syntax, after_syntax) = next (is_syntax earlier line) Syntax _ e in
     let (version, after_version) = next (is_version line) Version _ after_syntax in
-    let (repeated, after_repeated) = next (is_repeated known line) Repeated _ after_version in
-    let (unknown, after_unknown) = next (is_unknown_node known line) UnknownNode _ after_repeated in
+    let (repeated, after_repeated) = next (is_repeated earlier line) Repeated _ after_version in
+    let (unknown, after_unknown) = next (is_unknown_node earlier line) UnknownNode _ after_repeated in
     let (residue, after_residue) = next (is_residue line) Residue _ after_unknown in
-    let (limit, _) = next (is_limit known line) Limit None after_residue in
-    let parts : (not (may_stand known.stood line) ≡ false) × (not (fits known line) ≡ false) = neither _ _ syntax in
+    let (limit, _) = next (is_limit earlier line) Limit None after_residue in
+    let parts : (not (may_stand earlier line) ≡ false) × (not (fits earlier line) ≡ false) = neither _ _ syntax in
     record {
       stands = not_false _ parts.0;
       fitting = not_false _ parts.1;
@@ -65,8 +68,55 @@ passes known line e =
       limits = limit;
     }
 
+-- a line may stand behind lines where it may stand behind the last one's kind
+of_statement : (statement : Statement) (line : Line) → (cond (takes_rows statement) (is_row_line line) (goes_on line)) ≡ stands_behind (node_stood statement) line
+of_statement (Eval from texts) line = refl
+of_statement (Take parts) line = refl
+of_statement (Slice from first last) line = refl
+of_statement (Chain parts) line = refl
+of_statement (Sum parts) line = refl
+of_statement (Product parts) line = refl
+of_statement (Matmul left right rows mid cols) line = refl
+of_statement (Dense from rows unknowns want) line = refl
+of_statement (Sparse from unknowns want) line = refl
+
+pub stands_of : (earlier : List Line) (line : Line) → may_stand earlier line ≡ stands_behind (last_of earlier) line
+stands_of [] line = refl
+stands_of (Flow version ∷ before) line = refl
+stands_of (Graph name ∷ before) line = refl
+stands_of (Input names ∷ before) line = refl
+stands_of (Node name statement ∷ before) line = of_statement statement line
+stands_of (Row columns ∷ before) line = refl
+stands_of (Output list ∷ before) line = refl
+stands_of (Point entries ∷ before) line = refl
+stands_of (Bounds outputs num den ∷ before) line = refl
+stands_of (Coeff num den ∷ before) line = refl
+
+ended_statement : (statement : Statement) → false ≡ is_ended (node_stood statement)
+ended_statement (Eval from texts) = refl
+ended_statement (Take parts) = refl
+ended_statement (Slice from first last) = refl
+ended_statement (Chain parts) = refl
+ended_statement (Sum parts) = refl
+ended_statement (Product parts) = refl
+ended_statement (Matmul left right rows mid cols) = refl
+ended_statement (Dense from rows unknowns want) = refl
+ended_statement (Sparse from unknowns want) = refl
+
+pub ended_of : (earlier : List Line) → has_output earlier ≡ is_ended (last_of earlier)
+ended_of [] = refl
+ended_of (Flow version ∷ before) = refl
+ended_of (Graph name ∷ before) = refl
+ended_of (Input names ∷ before) = refl
+ended_of (Node name statement ∷ before) = ended_statement statement
+ended_of (Row columns ∷ before) = refl
+ended_of (Output list ∷ before) = refl
+ended_of (Point entries ∷ before) = refl
+ended_of (Bounds outputs num den ∷ before) = refl
+ended_of (Coeff num den ∷ before) = refl
+
 -- where lines may stand
-pub stands-flow : (stood : Last) (version : ℕ) → may_stand stood (Flow version) ≡ true → has_input stood ≡ false
+pub stands-flow : (stood : Last) (version : ℕ) → stands_behind stood (Flow version) ≡ true → has_input stood ≡ false
 stands-flow last.Start version e = refl
 stands-flow last.Flow version e = refl
 stands-flow last.Graph version e = refl
@@ -75,9 +125,9 @@ stands-flow last.Node version e = cc
 stands-flow last.Sparse version e = cc
 stands-flow last.Row version e = cc
 stands-flow last.Output version e = cc
-stands-flow last.Point version e = cc
+stands-flow last.Job version e = cc
 
-pub stands-graph : (stood : Last) (name : List ℕ) → may_stand stood (Graph name) ≡ true → has_input stood ≡ false
+pub stands-graph : (stood : Last) (name : List ℕ) → stands_behind stood (Graph name) ≡ true → has_input stood ≡ false
 stands-graph last.Start name e = refl
 stands-graph last.Flow name e = refl
 stands-graph last.Graph name e = refl
@@ -86,9 +136,9 @@ stands-graph last.Node name e = cc
 stands-graph last.Sparse name e = cc
 stands-graph last.Row name e = cc
 stands-graph last.Output name e = cc
-stands-graph last.Point name e = cc
+stands-graph last.Job name e = cc
 
-pub stands-input : (stood : Last) (names : List (List ℕ)) → may_stand stood (Input names) ≡ true → (has_name stood ≡ true) × (has_input stood ≡ false)
+pub stands-input : (stood : Last) (names : List (List ℕ)) → stands_behind stood (Input names) ≡ true → (has_name stood ≡ true) × (has_input stood ≡ false)
 stands-input last.Start names e = cc
 stands-input last.Flow names e = cc
 stands-input last.Graph names e = (refl, refl)
@@ -97,9 +147,9 @@ stands-input last.Node names e = cc
 stands-input last.Sparse names e = cc
 stands-input last.Row names e = cc
 stands-input last.Output names e = cc
-stands-input last.Point names e = cc
+stands-input last.Job names e = cc
 
-pub stands-node : (stood : Last) (name : List ℕ) (statement : Statement) → may_stand stood (Node name statement) ≡ true → has_input stood ≡ true
+pub stands-node : (stood : Last) (name : List ℕ) (statement : Statement) → stands_behind stood (Node name statement) ≡ true → has_input stood ≡ true
 stands-node last.Start name statement e = cc
 stands-node last.Flow name statement e = cc
 stands-node last.Graph name statement e = cc
@@ -108,9 +158,9 @@ stands-node last.Node name statement e = refl
 stands-node last.Sparse name statement e = cc
 stands-node last.Row name statement e = refl
 stands-node last.Output name statement e = cc
-stands-node last.Point name statement e = cc
+stands-node last.Job name statement e = cc
 
-pub stands-row : (stood : Last) (columns : List ℕ) → may_stand stood (Row columns) ≡ true → has_rows stood ≡ true
+pub stands-row : (stood : Last) (columns : List ℕ) → stands_behind stood (Row columns) ≡ true → has_rows stood ≡ true
 stands-row last.Start columns e = cc
 stands-row last.Flow columns e = cc
 stands-row last.Graph columns e = cc
@@ -119,16 +169,16 @@ stands-row last.Node columns e = cc
 stands-row last.Sparse columns e = refl
 stands-row last.Row columns e = refl
 stands-row last.Output columns e = cc
-stands-row last.Point columns e = cc
+stands-row last.Job columns e = cc
 
 -- behind a sparse node without rows no node and no output stand
-pub whole-node : (stood : Last) (name : List ℕ) (statement : Statement) → may_stand stood (Node name statement) ≡ true → stood ≡ last.Sparse → ⊥
-whole-node stood name statement e is = let told : may_stand last.Sparse (Node name statement) ≡ true = subst (λ (s : Last). may_stand s (Node name statement) ≡ true) is e in cc
+pub whole-node : (stood : Last) (name : List ℕ) (statement : Statement) → stands_behind stood (Node name statement) ≡ true → stood ≡ last.Sparse → ⊥
+whole-node stood name statement e is = let told : stands_behind last.Sparse (Node name statement) ≡ true = subst (λ (s : Last). stands_behind s (Node name statement) ≡ true) is e in cc
 
-pub whole-output : (stood : Last) (list : List ℕ) → may_stand stood (Output list) ≡ true → stood ≡ last.Sparse → ⊥
-whole-output stood list e is = let told : may_stand last.Sparse (Output list) ≡ true = subst (λ (s : Last). may_stand s (Output list) ≡ true) is e in cc
+pub whole-output : (stood : Last) (list : List ℕ) → stands_behind stood (Output list) ≡ true → stood ≡ last.Sparse → ⊥
+whole-output stood list e is = let told : stands_behind last.Sparse (Output list) ≡ true = subst (λ (s : Last). stands_behind s (Output list) ≡ true) is e in cc
 
-pub stands-output : (stood : Last) (list : List ℕ) → may_stand stood (Output list) ≡ true → has_input stood ≡ true
+pub stands-output : (stood : Last) (list : List ℕ) → stands_behind stood (Output list) ≡ true → has_input stood ≡ true
 stands-output last.Start list e = cc
 stands-output last.Flow list e = cc
 stands-output last.Graph list e = cc
@@ -137,9 +187,9 @@ stands-output last.Node list e = refl
 stands-output last.Sparse list e = cc
 stands-output last.Row list e = refl
 stands-output last.Output list e = cc
-stands-output last.Point list e = cc
+stands-output last.Job list e = cc
 
-pub stands-point : (stood : Last) (entries : List ℕ) → may_stand stood (Point entries) ≡ true → has_output stood ≡ true
+pub stands-point : (stood : Last) (entries : List ℕ) → stands_behind stood (Point entries) ≡ true → is_ended stood ≡ true
 stands-point last.Start entries e = cc
 stands-point last.Flow entries e = cc
 stands-point last.Graph entries e = cc
@@ -148,7 +198,29 @@ stands-point last.Node entries e = cc
 stands-point last.Sparse entries e = cc
 stands-point last.Row entries e = cc
 stands-point last.Output entries e = refl
-stands-point last.Point entries e = refl
+stands-point last.Job entries e = refl
+
+pub stands-bounds : (stood : Last) (outputs : Which) (num den : Degrees) → stands_behind stood (Bounds outputs num den) ≡ true → is_ended stood ≡ true
+stands-bounds last.Start outputs num den e = cc
+stands-bounds last.Flow outputs num den e = cc
+stands-bounds last.Graph outputs num den e = cc
+stands-bounds last.Input outputs num den e = cc
+stands-bounds last.Node outputs num den e = cc
+stands-bounds last.Sparse outputs num den e = cc
+stands-bounds last.Row outputs num den e = cc
+stands-bounds last.Output outputs num den e = refl
+stands-bounds last.Job outputs num den e = refl
+
+pub stands-coeff : (stood : Last) (num den : ℕ) → stands_behind stood (Coeff num den) ≡ true → is_ended stood ≡ true
+stands-coeff last.Start num den e = cc
+stands-coeff last.Flow num den e = cc
+stands-coeff last.Graph num den e = cc
+stands-coeff last.Input num den e = cc
+stands-coeff last.Node num den e = cc
+stands-coeff last.Sparse num den e = cc
+stands-coeff last.Row num den e = cc
+stands-coeff last.Output num den e = refl
+stands-coeff last.Job num den e = refl
 
 -- what passes for each element passes for the one at a place
 pub list_all-at : {X : Type 0} (test : X → Bool) (xs : List X) → list_all test xs ≡ true → (k : ℕ) (x : X) → slice_get xs k ≡ Some x → test x ≡ true
@@ -218,16 +290,16 @@ pub at_most_32 : (name : List ℕ) → is_short name ≡ true → length name �
 at_most_32 name short = let within : nat_le (length name) 32 ≡ true = short in grind (arith, nat_tests)
 
 -- the name of a `graph` line is short
-pub graph-passed : (known : Known) (name : List ℕ) → Passes known (Graph name) → length name ≤ 32
-graph-passed known name pass = at_most_32 name (not_false _ pass.limits)
+pub graph-passed : (earlier : List Line) (name : List ℕ) → Passes earlier (Graph name) → length name ≤ 32
+graph-passed earlier name pass = at_most_32 name (not_false _ pass.limits)
 
 -- there is room for the point of a `point` line
-pub room-passed : (known : Known) (entries : List ℕ) → Passes known (Point entries) → known.points < 65536
-room-passed known entries pass = let within : nat_lt known.points 65536 ≡ true = not_false _ pass.limits in grind (arith, nat_tests)
+pub room-passed : (earlier : List Line) (entries : List ℕ) → Passes earlier (Point entries) → length (points_in earlier) < 65536
+room-passed earlier entries pass = let within : nat_lt (length (points_in earlier)) 65536 ≡ true = not_false _ pass.limits in grind (arith, nat_tests)
 
 -- the names of an `input` line are variables
-pub variables-passed : (known : Known) (names : List (List ℕ)) → Passes known (Input names) → list_all is_name names ≡ true → 1 ≤ length names → AreVariables names
-variables-passed known names pass are some =
+pub variables-passed : (earlier : List Line) (names : List (List ℕ)) → Passes earlier (Input names) → list_all is_name names ≡ true → 1 ≤ length names → AreVariables names
+variables-passed earlier names pass are some =
     let limits : (list_all is_short names && nat_le (length names) 8) ≡ true = not_false _ pass.limits in
     let count : nat_le (length names) 8 ≡ true = (both _ _ limits).1 in
     record {
@@ -241,10 +313,10 @@ variables-passed known names pass are some =
     }
 
 -- the entries of a `point` line are those of a point
-pub point-passed : (known : Known) (entries : List ℕ) → Passes known (Point entries) → (1 ≤ known.variables) × (known.variables ≤ 8) → (length entries ≡ known.variables) × IsPoint entries
-point-passed known entries pass within =
-    let count : (length entries == known.variables) ≡ true = pass.fitting in
-    let same : length entries ≡ known.variables = grind (arith, nat_tests) in
+pub point-passed : (earlier : List Line) (entries : List ℕ) → Passes earlier (Point entries) → (1 ≤ length (variables_in earlier)) × (length (variables_in earlier) ≤ 8) → (length entries ≡ length (variables_in earlier)) × IsPoint entries
+point-passed earlier entries pass within =
+    let count : (length entries == length (variables_in earlier)) ≡ true = pass.fitting in
+    let same : length entries ≡ length (variables_in earlier) = grind (arith, nat_tests) in
     let residues : list_all is_entry entries ≡ true = not_false _ pass.residues in (
       same,
       record {
@@ -276,13 +348,13 @@ ascending_from most (m ∷ n ∷ later) small within ascend (suc i) zero order i
 ascending_from most (m ∷ n ∷ later) small within ascend (suc i) (suc j) order inside = ascending_from most (n ∷ later) small (both _ (are_columns most (n ∷ later)) within).1 ascend.1 i j (omega arith) (omega arith)
 
 -- the columns of a `row` line are those of a row, and there is room for them
-pub row-passed : (known : Known) (columns : List ℕ) → Passes known (Row columns) → known.unknowns ≤ 4096 → Ascend columns → IsSparseRow known.unknowns (record { columns = columns }) × (known.entries + length columns ≤ 65536)
-row-passed known columns pass small ascend =
-    let parts : (are_columns known.unknowns columns ≡ true) × (nat_le (known.entries + length columns) 65536 ≡ true) = both _ _ (not_false _ pass.limits) in
-    let room : nat_le (known.entries + length columns) 65536 ≡ true = parts.1 in (
+pub row-passed : (earlier : List Line) (columns : List ℕ) → Passes earlier (Row columns) → (unknowns_in earlier) ≤ 4096 → Ascend columns → IsSparseRow (unknowns_in earlier) (record { columns = columns }) × ((entries_in earlier) + length columns ≤ 65536)
+row-passed earlier columns pass small ascend =
+    let parts : (are_columns (unknowns_in earlier) columns ≡ true) × (nat_le ((entries_in earlier) + length columns) 65536 ≡ true) = both _ _ (not_false _ pass.limits) in
+    let room : nat_le ((entries_in earlier) + length columns) 65536 ≡ true = parts.1 in (
       record {
-        ascending = ascending_from known.unknowns columns (omega arith) parts.0 ascend;
-        within = λ i inside. let below : nat_le (slice_index columns i) known.unknowns ≡ true = list_all-at (λ column. nat_le column known.unknowns) columns parts.0 i (slice_index columns i) (slice_get-get_or columns i 0 inside) in grind (arith, nat_tests);
+        ascending = ascending_from (unknowns_in earlier) columns (omega arith) parts.0 ascend;
+        within = λ i inside. let below : nat_le (slice_index columns i) (unknowns_in earlier) ≡ true = list_all-at (λ column. nat_le column (unknowns_in earlier)) columns parts.0 i (slice_index columns i) (slice_get-get_or columns i 0 inside) in grind (arith, nat_tests);
       },
       grind (arith, nat_tests, room),
     )

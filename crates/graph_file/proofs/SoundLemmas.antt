@@ -12,7 +12,7 @@ use Rattle.graph_file.specs.declared.graph.Source.{Source}
 use Rattle.graph_file.specs.declared.graph.Source.TheVariants as source
 use Rattle.graph_file.specs.declared.line.Last.{Last}
 use Rattle.graph_file.specs.declared.line.Last.TheVariants as last
-use Rattle.graph_file.specs.File.{has_output}
+use Rattle.graph_file.specs.Reader.{is_ended}
 use Rattle.graph_file.specs.Reader.{AreDistinct, AreVariables, HasNoRows, HasRows, IsBegun, IsBegunNode, IsOpen, IsSound, has_input, has_name, has_rows, kind_stood, kind_unknowns}
 use Rattle.graph_file.specs.Needed.{kinds_of}
 use Rattle.graph_file.specs.Says.{last_with_row, names_of, with_row}
@@ -33,9 +33,9 @@ named_with_input last.Node e = refl
 named_with_input last.Sparse e = refl
 named_with_input last.Row e = refl
 named_with_input last.Output e = refl
-named_with_input last.Point e = refl
+named_with_input last.Job e = refl
 
-pub input_with_output : (stood : Last) → has_output stood ≡ true → has_input stood ≡ true
+pub input_with_output : (stood : Last) → is_ended stood ≡ true → has_input stood ≡ true
 input_with_output last.Start e = cc
 input_with_output last.Flow e = cc
 input_with_output last.Graph e = cc
@@ -44,7 +44,7 @@ input_with_output last.Node e = cc
 input_with_output last.Sparse e = cc
 input_with_output last.Row e = cc
 input_with_output last.Output e = refl
-input_with_output last.Point e = refl
+input_with_output last.Job e = refl
 
 -- what stands at a place of a list with one more element
 pub at_push : {X : Type 0} (xs : List X) (x : X) (k : ℕ) (y : X) → slice_get (xs ++ x ∷ []) k ≡ Some y → (slice_get xs k ≡ Some y) ⊎ ((k ≡ length xs) × (x ≡ y))
@@ -85,8 +85,8 @@ nothing_at : {X : Type 0} (xs : List X) (k : ℕ) (x : X) → xs ≡ [] → slic
 nothing_at {X} xs k x none at = let told : slice_get {X = X} [] k ≡ Some x = ap (λ (l : List X). slice_get l k) (sym none) ∙ at in cc
 
 -- the output stands behind no sparse node without rows
-pub whole_with_output : (stood : Last) → has_output stood ≡ true → stood ≡ last.Sparse → ⊥
-whole_with_output stood e is = let told : has_output last.Sparse ≡ true = subst (λ (s : Last). has_output s ≡ true) is e in cc
+pub whole_with_output : (stood : Last) → is_ended stood ≡ true → stood ≡ last.Sparse → ⊥
+whole_with_output stood e is = let told : is_ended last.Sparse ≡ true = subst (λ (s : Last). is_ended s ≡ true) is e in cc
 
 pub input_with_rows : (stood : Last) → has_rows stood ≡ true → has_input stood ≡ true
 input_with_rows last.Start e = cc
@@ -97,7 +97,7 @@ input_with_rows last.Node e = cc
 input_with_rows last.Sparse e = refl
 input_with_rows last.Row e = refl
 input_with_rows last.Output e = cc
-input_with_rows last.Point e = cc
+input_with_rows last.Job e = cc
 
 -- the line of a node
 input_with_node : (kind : NodeKind) → has_input (kind_stood kind) ≡ true
@@ -111,7 +111,7 @@ input_with_node (node.Matmul left right rows mid cols) = refl
 input_with_node (node.Dense from rows unknowns want) = refl
 input_with_node (node.Sparse from unknowns want rows) = refl
 
-no_output_with_node : (kind : NodeKind) → has_output (kind_stood kind) ≡ false
+no_output_with_node : (kind : NodeKind) → is_ended (kind_stood kind) ≡ false
 no_output_with_node (node.Eval from exprs) = refl
 no_output_with_node (node.Take parts) = refl
 no_output_with_node (node.Slice from first last) = refl
@@ -433,10 +433,34 @@ module _ (stood : Last) (name : Option (List ℕ)) (variables : Names) (names : 
     fitting = sound.fitting;
   }
 
-  pub IsSound-point : (point : List ℕ) (points' : List (List ℕ)) → has_output stood ≡ true → length points < 65536 → length point ≡ length (variables_of variables) → points' ≡ points ++ point ∷ [] → IsSound last.Point name variables names nodes unknowns entries output points'
+  pub IsSound-job : is_ended stood ≡ true → IsSound last.Job name variables names nodes unknowns entries output points
+  IsSound-job has_end = record {
+    has_graph = λ e. sound.has_graph (named_with_input stood (input_with_output stood has_end));
+    named = sound.named;
+    inputs = λ e. sound.inputs (input_with_output stood has_end);
+    listed = sound.listed;
+    few = sound.few;
+    ended = λ e. sound.ended has_end;
+    no_node = λ e. cc;
+    no_point = λ e. cc;
+    names_are = sound.names_are;
+    bounded = sound.bounded;
+    begun = sound.begun;
+    filled = λ k node at waits. sound.filled k node at (λ is. absurd (whole_with_output stood has_end is));
+    some_node = λ e. cc;
+    opened = λ e. cc;
+    distinct = sound.distinct;
+    output_is = sound.output_is;
+    few_unknowns = sound.few_unknowns;
+    few_entries = sound.few_entries;
+    few_points = sound.few_points;
+    fitting = sound.fitting;
+  }
+
+  pub IsSound-point : (point : List ℕ) (points' : List (List ℕ)) → is_ended stood ≡ true → length points < 65536 → length point ≡ length (variables_of variables) → points' ≡ points ++ point ∷ [] → IsSound last.Job name variables names nodes unknowns entries output points'
   IsSound-point point points' has_end few fits more =
       let inputs : has_input stood ≡ true = input_with_output stood has_end in
-      let whole : IsSound last.Point name variables names nodes unknowns entries output (points ++ point ∷ []) = record {
+      let whole : IsSound last.Job name variables names nodes unknowns entries output (points ++ point ∷ []) = record {
         has_graph = λ e. sound.has_graph (named_with_input stood inputs);
         named = sound.named;
         inputs = λ e. sound.inputs inputs;
@@ -462,7 +486,7 @@ module _ (stood : Last) (name : Option (List ℕ)) (variables : Names) (names : 
             (at_push points point k other at);
       }
       in
-      subst (λ (ps : List (List ℕ)). IsSound last.Point name variables names nodes unknowns entries output ps) (sym more) whole
+      subst (λ (ps : List (List ℕ)). IsSound last.Job name variables names nodes unknowns entries output ps) (sym more) whole
 
 -- what the nodes compute with one more row
 last_pushed : (row : SparseRow) (kinds : List NodeKind) (kind : NodeKind) → last_with_row row (kinds ++ kind ∷ []) ≡ kinds ++ with_row row kind ∷ []

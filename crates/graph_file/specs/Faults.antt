@@ -1,6 +1,6 @@
 -- What may be wrong with a line, given what the lines before it say. Earlier lines stand in a list with the last one
 -- first, and those that are passed over are left out.
-use Rattle.std.specs.Prelude.{ℕ, ◌≡◌, ◌+◌, ◌*◌, ◌<◌, Bool, true, false, not, ◌&&◌, ◌||◌, ◌==◌, nat_le, nat_lt, if◌then◌else◌, List, [], ◌∷◌, ◌++◌, length, map, Option, Some, None, bytes_eq, codes, slice_get}
+use Rattle.std.specs.Prelude.{ℕ, ◌≡◌, ◌+◌, ◌*◌, ◌<◌, Bool, true, false, not, ◌&&◌, ◌||◌, ◌==◌, nat_le, nat_lt, if◌then◌else◌, List, [], ◌∷◌, ◌++◌, length, map, Option, Some, None, is_some, bytes_eq, codes, slice_get}
 use Rattle.std.specs.List.{list_all, list_any}
 use Rattle.ratfun_text.specs.Faults.{IsFaultless, IsFirst}
 use Rattle.ratfun_text.specs.declared.names.Names.{Names}
@@ -8,137 +8,79 @@ use Rattle.ratfun_text.specs.declared.names.Names.TheVariants.{Listed, Numbered}
 use Rattle.ratfun_text.specs.declared.parse.ExprError.{ExprError}
 use Rattle.graph_file.specs.declared.error.FileKind.{FileKind}
 use Rattle.graph_file.specs.declared.error.FileKind.TheVariants.{Syntax, Version, Repeated, UnknownNode, Residue, Limit, Expr}
-use Rattle.graph_file.specs.declared.line.Last.{Last}
-use Rattle.graph_file.specs.declared.line.Last.TheVariants as last
+use Rattle.graph_file.specs.declared.job.Special.{Special}
+use Rattle.graph_file.specs.declared.line.Degrees.{Degrees}
 use Rattle.graph_file.specs.declared.line.Line.{Line}
-use Rattle.graph_file.specs.declared.line.Line.TheVariants.{Flow, Graph, Input, Node, Row, Output, Point}
+use Rattle.graph_file.specs.declared.line.Line.TheVariants.{Flow, Graph, Input, Node, Row, Output, Point, Bounds, Coeff}
 use Rattle.graph_file.specs.declared.line.Statement.{Statement}
 use Rattle.graph_file.specs.declared.line.Statement.TheVariants.{Eval, Take, Slice, Chain, Sum, Product, Matmul, Dense, Sparse}
 use Rattle.graph_file.specs.declared.line.Want.{Want}
 use Rattle.graph_file.specs.declared.line.Want.TheVariants.{Every, Numbers}
+use Rattle.graph_file.specs.declared.line.Which.{Which}
+use Rattle.graph_file.specs.declared.line.Which.TheVariants as which
+use Rattle.poly_maps.specs.declared.bound.Bounds.{Bounds as BoundsOf}
+use Rattle.rational_lift.specs.Joined.{both}
+use Rattle.ray_grid.specs.Grid.{point_count}
+use Rattle.ray_grid.specs.declared.grid.Grid.{Grid}
+use Rattle.multivar_recon.specs.Covering.{monomial_count}
+use Rattle.graph_file.specs.Bounding.{all_in, bounds_given, bounds_said, coeff_in, grid_with, special_in, widest}
+use Rattle.graph_file.specs.Facts.{entries_in, is_job_line, node_names_in, points_in, unknowns_in, variables_in}
 use Rattle.graph_file.specs.Line.{texts_in}
 
--- which kind of `node` line this is
-abbrev pub node_stood : Statement → Last
-node_stood (Sparse from unknowns want) = last.Sparse
-node_stood _ = last.Node
+-- rows follow the line of a sparse node
+abbrev pub takes_rows : Statement → Bool
+takes_rows (Sparse from unknowns want) = true
+takes_rows _ = false
 
--- which kind of line stood last
-abbrev pub last_of : List Line → Last
-last_of [] = last.Start
-last_of (Flow version ∷ before) = last.Flow
-last_of (Graph name ∷ before) = last.Graph
-last_of (Input names ∷ before) = last.Input
-last_of (Node name statement ∷ before) = node_stood statement
-last_of (Row columns ∷ before) = last.Row
-last_of (Output list ∷ before) = last.Output
-last_of (Point entries ∷ before) = last.Point
+abbrev pub is_flow_line : Line → Bool
+is_flow_line (Flow version) = true
+is_flow_line _ = false
 
--- the variables of the graph whose `graph` line stood last
-abbrev pub variables_in : List Line → List (List ℕ)
-variables_in [] = []
-variables_in (Flow version ∷ before) = variables_in before
-variables_in (Graph name ∷ before) = []
-variables_in (Input names ∷ before) = names
-variables_in (Node name statement ∷ before) = variables_in before
-variables_in (Row columns ∷ before) = variables_in before
-variables_in (Output list ∷ before) = variables_in before
-variables_in (Point entries ∷ before) = variables_in before
+abbrev pub is_graph_line : Line → Bool
+is_graph_line (Graph name) = true
+is_graph_line _ = false
 
--- the names of its nodes, in the order of the file
-abbrev pub node_names_in : List Line → List (List ℕ)
-node_names_in [] = []
-node_names_in (Flow version ∷ before) = node_names_in before
-node_names_in (Graph name ∷ before) = []
-node_names_in (Input names ∷ before) = node_names_in before
-node_names_in (Node name statement ∷ before) = node_names_in before ++ name ∷ []
-node_names_in (Row columns ∷ before) = node_names_in before
-node_names_in (Output list ∷ before) = node_names_in before
-node_names_in (Point entries ∷ before) = node_names_in before
+abbrev pub is_input_line : Line → Bool
+is_input_line (Input names) = true
+is_input_line _ = false
 
--- the unknowns of a sparse node
-abbrev pub unknowns_of : Statement → ℕ
-unknowns_of (Sparse from unknowns want) = unknowns
-unknowns_of _ = 0
+-- one more node, or the output
+abbrev pub goes_on : Line → Bool
+goes_on (Node name statement) = true
+goes_on (Output list) = true
+goes_on _ = false
 
--- the unknowns of the graph's last node, where that is sparse
-abbrev pub unknowns_in : List Line → ℕ
-unknowns_in [] = 0
-unknowns_in (Flow version ∷ before) = unknowns_in before
-unknowns_in (Graph name ∷ before) = 0
-unknowns_in (Input names ∷ before) = unknowns_in before
-unknowns_in (Node name statement ∷ before) = unknowns_of statement
-unknowns_in (Row columns ∷ before) = unknowns_in before
-unknowns_in (Output list ∷ before) = unknowns_in before
-unknowns_in (Point entries ∷ before) = unknowns_in before
+abbrev pub is_row_line : Line → Bool
+is_row_line (Row columns) = true
+is_row_line _ = false
 
--- how many entries the rows of the graph's last node have so far
-abbrev pub entries_in : List Line → ℕ
-entries_in [] = 0
-entries_in (Flow version ∷ before) = entries_in before
-entries_in (Graph name ∷ before) = 0
-entries_in (Input names ∷ before) = entries_in before
-entries_in (Node name statement ∷ before) = 0
-entries_in (Row columns ∷ before) = entries_in before + length columns
-entries_in (Output list ∷ before) = entries_in before
-entries_in (Point entries ∷ before) = entries_in before
+-- which line may stand behind a line
+abbrev pub may_follow : Line → Line → Bool
+may_follow (Flow version) line = is_graph_line line
+may_follow (Graph name) line = is_input_line line
+may_follow (Input names) line = goes_on line
+may_follow (Node name statement) line = if takes_rows statement then is_row_line line else goes_on line
+may_follow (Row columns) line = is_row_line line || goes_on line
+may_follow _ line = is_job_line line
 
--- the points, in the order of the file
-abbrev pub points_in : List Line → List (List ℕ)
-points_in [] = []
-points_in (Flow version ∷ before) = points_in before
-points_in (Graph name ∷ before) = points_in before
-points_in (Input names ∷ before) = points_in before
-points_in (Node name statement ∷ before) = points_in before
-points_in (Row columns ∷ before) = points_in before
-points_in (Output list ∷ before) = points_in before
-points_in (Point entries ∷ before) = points_in before ++ entries ∷ []
+-- which line may stand behind these: the first is `flow`, and each later one may follow the one before it
+abbrev pub may_stand : List Line → Line → Bool
+may_stand [] line = is_flow_line line
+may_stand (last ∷ before) line = may_follow last line
 
--- what the tests of a line ask of the lines before it: which kind stood last, the number of the graph's variables, the
--- names of its nodes, the unknowns of the last node and the entries of its rows, and the number of points
-pub record Known : Type 0 where
-  pub stood : Last
-  pub variables : ℕ
-  pub nodes : List (List ℕ)
-  pub unknowns : ℕ
-  pub entries : ℕ
-  pub points : ℕ
+-- there are no degrees in single variables, or one in each
+abbrev pub are_degrees : ℕ → Degrees → Bool
+are_degrees variables degrees = length degrees.each == 0 || length degrees.each == variables
 
-abbrev pub known_in : List Line → Known
-known_in earlier = record {
-  stood = last_of earlier;
-  variables = length (variables_in earlier);
-  nodes = node_names_in earlier;
-  unknowns = unknowns_in earlier;
-  entries = entries_in earlier;
-  points = length (points_in earlier);
-}
-
--- which line may stand after which
-abbrev pub may_stand : Last → Line → Bool
-may_stand last.Start (Flow version) = true
-may_stand last.Flow (Graph name) = true
-may_stand last.Graph (Input names) = true
-may_stand last.Input (Node name statement) = true
-may_stand last.Node (Node name statement) = true
-may_stand last.Row (Node name statement) = true
-may_stand last.Sparse (Row columns) = true
-may_stand last.Row (Row columns) = true
-may_stand last.Input (Output list) = true
-may_stand last.Node (Output list) = true
-may_stand last.Row (Output list) = true
-may_stand last.Output (Point entries) = true
-may_stand last.Point (Point entries) = true
-may_stand _ _ = false
-
--- a point has an entry for each variable
-abbrev pub fits : Known → Line → Bool
-fits known (Point entries) = length entries == known.variables
-fits known _ = true
+-- a point has an entry for each variable, and where `bounds` gives degrees in single variables, one for each
+abbrev pub fits : List Line → Line → Bool
+fits earlier (Point entries) = length entries == length (variables_in earlier)
+fits earlier (Bounds outputs num den) = are_degrees (length (variables_in earlier)) num && are_degrees (length (variables_in earlier)) den
+fits earlier _ = true
 
 -- the line may not stand there, or doesn't fit the variables
-abbrev pub is_syntax : Known → Line → Bool
-is_syntax known line = not (may_stand known.stood line) || not (fits known line)
+abbrev pub is_syntax : List Line → Line → Bool
+is_syntax earlier line = not (may_stand earlier line) || not (fits earlier line)
 
 -- the version isn't 1
 abbrev pub is_version : Line → Bool
@@ -154,11 +96,19 @@ abbrev pub are_new : List (List ℕ) → List (List ℕ) → Bool
 are_new before [] = true
 are_new before (name ∷ later) = not (list_any (λ other. bytes_eq other name) before) && are_new (before ++ name ∷ []) later
 
--- a variable has the name of another of this line, or a node that of an earlier node, or `input`
-abbrev pub is_repeated : Known → Line → Bool
-is_repeated known (Input names) = not (are_new [] names)
-is_repeated known (Node name statement) = is_known known.nodes name
-is_repeated known _ = false
+-- bounds for these outputs were given
+abbrev pub is_given : Option BoundsOf → List Special → Which → Bool
+is_given all special which.All = is_some all
+is_given all special (which.Output output) = list_any (λ own. own.output == output) special
+
+-- a variable has the name of another of this line, or a node that of an earlier node, or `input`; or bounds for the same
+-- outputs were given, or bounds for coefficients
+abbrev pub is_repeated : List Line → Line → Bool
+is_repeated earlier (Input names) = not (are_new [] names)
+is_repeated earlier (Node name statement) = is_known (node_names_in earlier) name
+is_repeated earlier (Bounds outputs num den) = is_given (all_in earlier) (special_in earlier) outputs
+is_repeated earlier (Coeff num den) = is_some (coeff_in earlier)
+is_repeated earlier _ = false
 
 -- the lists that a node reads, by their names
 abbrev pub lists_in : Statement → List (List ℕ)
@@ -173,10 +123,10 @@ lists_in (Dense from rows unknowns want) = from ∷ []
 lists_in (Sparse from unknowns want) = from ∷ []
 
 -- a list is neither `input` nor an earlier node's
-abbrev pub is_unknown_node : Known → Line → Bool
-is_unknown_node known (Node name statement) = not (list_all (is_known known.nodes) (lists_in statement))
-is_unknown_node known (Output list) = not (is_known known.nodes list)
-is_unknown_node known _ = false
+abbrev pub is_unknown_node : List Line → Line → Bool
+is_unknown_node earlier (Node name statement) = not (list_all (is_known (node_names_in earlier)) (lists_in statement))
+is_unknown_node earlier (Output list) = not (is_known (node_names_in earlier) list)
+is_unknown_node earlier _ = false
 
 abbrev pub is_entry : ℕ → Bool
 is_entry entry = nat_lt entry 2305843009213693951
@@ -234,30 +184,65 @@ is_short name = nat_le (length name) 32
 abbrev pub are_columns : ℕ → List ℕ → Bool
 are_columns unknowns columns = list_all (λ column. nat_le column unknowns) columns
 
--- a name is too long, a number out of its range, or there are more than 8 variables, 4096 nodes, 65536 entries of a
--- sparse node or 65536 points
-abbrev pub is_limit : Known → Line → Bool
-is_limit known (Graph name) = not (is_short name)
-is_limit known (Input names) = not (list_all is_short names && nat_le (length names) 8)
-is_limit known (Node name statement) = not (is_short name && nat_lt (length known.nodes) 4096 && is_in_range statement)
-is_limit known (Row columns) = not (are_columns known.unknowns columns && nat_le (known.entries + length columns) 65536)
-is_limit known (Point entries) = not (nat_lt known.points 65536)
-is_limit known _ = false
+-- the outputs of a `bounds` line are there
+abbrev pub is_which : Which → Bool
+is_which which.All = true
+is_which (which.Output output) = is_position output
 
--- the first of these that is wrong with the line, where this is what the lines before it have said
-abbrev pub fault_after : Known → Line → Option FileKind
-fault_after known line =
-    if is_syntax known line then Some Syntax else
+-- a total degree of at most 64
+abbrev pub is_low : Degrees → Bool
+is_low degrees = nat_le degrees.total 64
+
+-- the numbers of a `bounds` line are in their ranges
+abbrev pub are_numbers : Which → Degrees → Degrees → Bool
+are_numbers outputs num den = is_which outputs && is_low num && is_low den
+
+-- numerator and denominator have at most 1024 monomials together
+abbrev pub has_few : ℕ → BoundsOf → Bool
+has_few variables bounds = nat_le (monomial_count bounds.num variables + monomial_count bounds.den variables) 1024
+
+-- the grid has at most 65536 points
+abbrev pub is_small : Grid → Bool
+is_small grid = nat_le (point_count grid) 65536
+
+-- the grid of all bounds that lines give
+abbrev pub grid_in : List Line → Grid
+grid_in lines = grid_with (length (variables_in lines)) (widest (bounds_given (all_in lines) (special_in lines)))
+
+-- the numbers of a `bounds` line are in their ranges, and so are the monomials of its bounds and the grid of the lines so far
+abbrev pub are_bounds : List Line → Which → Degrees → Degrees → Bool
+are_bounds earlier outputs num den = are_numbers outputs num den && has_few (length (variables_in earlier)) (bounds_said (length (variables_in earlier)) num den) && is_small (grid_in (Bounds outputs num den ∷ earlier))
+
+-- coefficients with these bounds are told by their residues at both moduli
+abbrev pub is_coeff : ℕ → ℕ → Bool
+is_coeff num den = nat_le 1 num && nat_le 1 den && nat_lt (2 * (num * den)) both
+
+-- a name is too long, a number out of its range, or there are more than 8 variables, 4096 nodes, 65536 entries of a
+-- sparse node, 65536 points, 1024 monomials of one output's bounds or 65536 points of the grid
+abbrev pub is_limit : List Line → Line → Bool
+is_limit earlier (Graph name) = not (is_short name)
+is_limit earlier (Input names) = not (list_all is_short names && nat_le (length names) 8)
+is_limit earlier (Node name statement) = not (is_short name && nat_lt (length (node_names_in earlier)) 4096 && is_in_range statement)
+is_limit earlier (Row columns) = not (are_columns (unknowns_in earlier) columns && nat_le (entries_in earlier + length columns) 65536)
+is_limit earlier (Point entries) = not (nat_lt (length (points_in earlier)) 65536)
+is_limit earlier (Bounds outputs num den) = not (are_bounds earlier outputs num den)
+is_limit earlier (Coeff num den) = not (is_coeff num den)
+is_limit earlier _ = false
+
+-- the first of these that is wrong with the line, where the lines before it are these
+abbrev pub fault_after : List Line → Line → Option FileKind
+fault_after earlier line =
+    if is_syntax earlier line then Some Syntax else
     if is_version line then Some Version else
-    if is_repeated known line then Some Repeated else
-    if is_unknown_node known line then Some UnknownNode else
+    if is_repeated earlier line then Some Repeated else
+    if is_unknown_node earlier line then Some UnknownNode else
     if is_residue line then Some Residue else
-    if is_limit known line then Some Limit else None
+    if is_limit earlier line then Some Limit else None
 
 -- what is wrong with what a line says, its expressions apart; a line that says nothing is Syntax
 abbrev pub fault : List Line → Option Line → Option FileKind
 fault earlier None = Some Syntax
-fault earlier (Some line) = fault_after (known_in earlier) line
+fault earlier (Some line) = fault_after earlier line
 
 -- the names that the expressions over a list may use: the variables over the input, and `z1`, `z2` and so on over a node
 abbrev pub names_over : Names → List ℕ → Names

@@ -1,13 +1,14 @@
 -- What is told of a file.
-use Rattle.std.specs.Prelude.{ℕ, ◌≡◌, ◌+◌, ◌<◌, Bool, true, false, ◌&&◌, nat_lt, List, length, take, reverse, filter_map, Some, slice_get}
+use Rattle.std.specs.Prelude.{ℕ, ◌≡◌, ◌+◌, ◌<◌, Bool, true, false, ◌&&◌, nat_lt, List, length, take, reverse, filter_map, Some, is_some, slice_get}
 use Rattle.graph_file.specs.declared.error.FileError.{FileError}
 use Rattle.graph_file.specs.declared.error.FileKind.{FileKind}
 use Rattle.graph_file.specs.declared.error.FileKind.TheVariants.{Missing, NoMemory}
 use Rattle.graph_file.specs.declared.job.Need.{Need}
-use Rattle.graph_file.specs.declared.line.Last.{Last}
-use Rattle.graph_file.specs.declared.line.Last.TheVariants as last
+use Rattle.graph_file.specs.declared.job.Need.TheVariants.{Points, Learning, Functions}
 use Rattle.graph_file.specs.declared.line.Line.{Line}
-use Rattle.graph_file.specs.Faults.{IsBadLine, IsGoodLine, last_of}
+use Rattle.graph_file.specs.Bounding.{all_in}
+use Rattle.graph_file.specs.Facts.{has_output}
+use Rattle.graph_file.specs.Faults.{IsBadLine, IsGoodLine}
 use Rattle.graph_file.specs.Line.{line_of}
 use Rattle.graph_file.specs.Lines.{lines, kept, is_passed_over}
 
@@ -34,17 +35,11 @@ pub record IsBadAt (all : List (List ℕ)) (place : ℕ) (kind : FileKind) : Typ
 abbrev pub AreGood : List (List ℕ) → ℕ → Type 0
 AreGood all count = (place : ℕ) → place < count → IsGoodAt all place
 
--- the graph's `output` has stood
-abbrev pub has_output : Last → Bool
-has_output last.Start = false
-has_output last.Flow = false
-has_output last.Graph = false
-has_output last.Input = false
-has_output last.Node = false
-has_output last.Sparse = false
-has_output last.Row = false
-has_output last.Output = true
-has_output last.Point = true
+-- the lines have the graph's output, and where the file is read for functions, bounds for every output
+abbrev pub is_complete : Need → List Line → Bool
+is_complete Points all = has_output all
+is_complete Learning all = has_output all
+is_complete Functions all = has_output all && is_some (all_in all)
 
 -- the line with this number, counted from 1, is the first with which something is wrong, and this is what
 pub record IsFirstBadLine (all : List (List ℕ)) (number : ℕ) (kind : FileKind) : Type 0 where
@@ -53,15 +48,15 @@ pub record IsFirstBadLine (all : List (List ℕ)) (number : ℕ) (kind : FileKin
   pub bad : IsBadAt all place kind
   pub before : AreGood all place
 
--- nothing is wrong with any line, but the file ends with the line of this number before the graph's `output`
-pub record IsCutOff (all : List (List ℕ)) (number : ℕ) : Type 0 where
+-- nothing is wrong with any line, but the file ends with the line of this number, and something is missing
+pub record IsCutOff (need : Need) (all : List (List ℕ)) (number : ℕ) : Type 0 where
   pub counted : number ≡ length all
   pub good : AreGood all (length all)
-  pub ended : has_output (last_of (said all)) ≡ false
+  pub lacks : is_complete need (said all) ≡ false
 
 -- what is told of the lines of a file that is read for this
 abbrev pub IsTold : Need → List (List ℕ) → ℕ → FileKind → Type 0
-IsTold need all number Missing = IsCutOff all number
+IsTold need all number Missing = IsCutOff need all number
 IsTold need all number kind = IsFirstBadLine all number kind
 
 -- this is told of a file that is read for this, with the number of a line, counted from 1
@@ -71,7 +66,7 @@ IsFirstBad need bytes number kind = IsTold need (lines bytes) number kind
 -- nothing is wrong with a file that is read for this
 pub record IsGoodFile (need : Need) (bytes : List ℕ) : Type 0 where
   pub good : AreGood (lines bytes) (length (lines bytes))
-  pub ended : has_output (last_of (said (lines bytes))) ≡ true
+  pub complete : is_complete need (said (lines bytes)) ≡ true
 
 -- what is told of the line at this place, counted from 0
 abbrev pub told : ℕ → FileKind → FileError

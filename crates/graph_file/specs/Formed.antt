@@ -3,7 +3,7 @@ use Rattle.std.specs.Prelude.{ℕ, ◌≡◌, ◌≤◌, ◌<◌, ◌-◌, ◌^�
 use Rattle.std.specs.List.{list_all}
 use Rattle.ratfun_text.specs.Bytes.{is_name}
 use Rattle.graph_file.specs.declared.line.Line.{Line}
-use Rattle.graph_file.specs.declared.line.Line.TheVariants.{Flow, Graph, Input, Node, Row, Output, Point}
+use Rattle.graph_file.specs.declared.line.Line.TheVariants.{Flow, Graph, Input, Node, Row, Output, Point, Bounds, Coeff}
 use Rattle.graph_file.specs.declared.line.Statement.{Statement}
 use Rattle.graph_file.specs.declared.line.Statement.TheVariants.{Eval, Take, Slice, Chain, Sum, Product, Matmul, Dense, Sparse}
 use Rattle.graph_file.specs.declared.line.Want.{Want}
@@ -41,3 +41,5 @@ IsFormed most (Node name statement) = (is_name name ≡ true) × IsWhole most st
 IsFormed most (Row columns) = (1 ≤ length columns) × Ascend columns
 IsFormed most (Output list) = Unit {0}
 IsFormed most (Point entries) = Unit {0}
+IsFormed most (Bounds outputs num den) = Unit {0}
+IsFormed most (Coeff num den) = Unit {0}

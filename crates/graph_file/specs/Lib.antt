@@ -1,5 +1,9 @@
+pub mod Asked
+pub mod Bounded
+pub mod Bounding
 pub mod Cut
 pub mod Digits
+pub mod Facts
 pub mod Faults
 pub mod File
 pub mod Formed
@@ -11,7 +15,6 @@ pub mod Parsed
 pub mod Props
 pub mod Read
 pub mod Reader
-pub mod ReaderProps
 pub mod Says
 pub mod Sound
 pub mod Table

@@ -1,12 +1,15 @@
 -- What the words of a line say: a pattern for each kind of line. A line that fits no pattern says nothing.
-use Rattle.std.specs.Prelude.{ℕ, ◌-◌, ◌^◌, min, ◌==◌, Bool, true, false, ◌&&◌, nat_lt, if◌then◌else◌, List, [], ◌∷◌, map, Option, Some, None, option_and_then, option_map, bytes_eq, codes}
-use Rattle.std.specs.List.{slice_split, list_all}
+use Rattle.std.specs.Prelude.{ℕ, ◌+◌, ◌-◌, ◌^◌, min, ◌==◌, Bool, true, false, ◌&&◌, nat_lt, if◌then◌else◌, List, [], ◌∷◌, map, take, drop, Option, Some, None, option_and_then, option_map, bytes_eq, codes}
+use Rattle.std.specs.List.{slice_split, list_all, position_or_len}
 use Rattle.ratfun_text.specs.Bytes.{is_name, number_of}
 use Rattle.graph_file.specs.Lines.{is_plain, words, after_words}
+use Rattle.graph_file.specs.declared.line.Degrees.{Degrees}
 use Rattle.graph_file.specs.declared.line.Line.{Line}
-use Rattle.graph_file.specs.declared.line.Line.TheVariants.{Flow, Graph, Input, Node, Row, Output, Point}
+use Rattle.graph_file.specs.declared.line.Line.TheVariants.{Flow, Graph, Input, Node, Row, Output, Point, Bounds, Coeff}
 use Rattle.graph_file.specs.declared.line.Statement.{Statement}
 use Rattle.graph_file.specs.declared.line.Statement.TheVariants.{Eval, Take, Slice, Chain, Sum, Product, Matmul, Dense, Sparse}
+use Rattle.graph_file.specs.declared.line.Which.{Which}
+use Rattle.graph_file.specs.declared.line.Which.TheVariants as which
 use Rattle.graph_file.specs.declared.line.Want.{Want}
 use Rattle.graph_file.specs.declared.line.Want.TheVariants.{Every, Numbers}
 
@@ -48,6 +51,49 @@ output_line _ = None
 abbrev pub point_line : List (List ℕ) → Option Line
 point_line [] = None
 point_line (entry ∷ entries) = option_map Point (all_of (map entry_of (entry ∷ entries)))
+
+-- a bound for numerators or denominators: 2^128 - 1 stands for every greater number too
+abbrev pub wide_of : List ℕ → Option ℕ
+wide_of word = option_map (λ n. min n (2 ^ 128 - 1)) (number_of word)
+
+abbrev pub coeff_from : Option ℕ → Option ℕ → Option Line
+coeff_from num den = option_and_then (λ num. option_map (λ den. Coeff num den) den) num
+
+-- `coeff NUM NUM`
+abbrev pub coeff_line : List (List ℕ) → Option Line
+coeff_line (num ∷ den ∷ []) = coeff_from (wide_of num) (wide_of den)
+coeff_line _ = None
+
+-- the outputs that a `bounds` line names: `all`, or the number of one
+abbrev pub which_of : List ℕ → Option Which
+which_of word = if bytes_eq word (codes "all") then Some which.All else option_map which.Output (size_of word)
+
+abbrev pub degrees_from : Option ℕ → Option (List ℕ) → Option Degrees
+degrees_from total each = option_and_then (λ total. option_map (λ each. record { total = total; each = each }) each) total
+
+-- `NUM ..`: a total degree and then the degrees in single variables
+abbrev pub degrees_of : List (List ℕ) → Option Degrees
+degrees_of [] = None
+degrees_of (total ∷ each) = degrees_from (size_of total) (all_of (map size_of each))
+
+abbrev pub degrees_pair : Option Degrees → Option Degrees → Option (Degrees × Degrees)
+degrees_pair num den = option_and_then (λ num. option_map (λ den. (num, den)) den) num
+
+-- where the word `den` stands first
+abbrev pub den_place : List (List ℕ) → ℕ
+den_place words = position_or_len (λ word. bytes_eq word (codes "den")) words
+
+-- `NUM .. den NUM ..`
+unfoldable pub both_degrees : List (List ℕ) → Option (Degrees × Degrees)
+both_degrees words = degrees_pair (degrees_of (take (den_place words) words)) (degrees_of (drop (den_place words + 1) words))
+
+abbrev pub bounds_from : Option Which → Option (Degrees × Degrees) → Option Line
+bounds_from outputs degrees = option_and_then (λ outputs. option_map (λ degrees. Bounds outputs degrees.0 degrees.1) degrees) outputs
+
+-- `bounds WHICH num NUM .. den NUM ..`
+abbrev pub bounds_line : List (List ℕ) → Option Line
+bounds_line (outputs ∷ num ∷ later) = if bytes_eq num (codes "num") then bounds_from (which_of outputs) (both_degrees later) else None
+bounds_line _ = None
 
 -- both are numbers, and the first is less
 abbrev pub are_less : Option ℕ → Option ℕ → Bool
@@ -175,7 +221,9 @@ line_of_words line (first ∷ later) =
     if bytes_eq first (codes "node") then node_line line later else
     if bytes_eq first (codes "row") then row_line later else
     if bytes_eq first (codes "output") then output_line later else
-    if bytes_eq first (codes "point") then point_line later else None
+    if bytes_eq first (codes "point") then point_line later else
+    if bytes_eq first (codes "bounds") then bounds_line later else
+    if bytes_eq first (codes "coeff") then coeff_line later else None
 
 -- what a line says, if its bytes are allowed and it fits a pattern
 abbrev pub line_of : List ℕ → Option Line

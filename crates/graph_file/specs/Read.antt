@@ -1,31 +1,27 @@
 -- What is kept of lines is what they say.
-use Rattle.std.specs.Prelude.{ℕ, ◌≡◌, ◌+◌, List, ◌∷◌, length, take, Option, Some, None, Result, Ok, Err}
+use Rattle.std.specs.Prelude.{ℕ, ◌≡◌, ◌+◌, true, List, [], ◌∷◌, take, Option, Some, None, Result, Ok, Err, ⊤}
 use Rattle.ratfun_text.specs.declared.names.Names.TheVariants.{Listed}
-use Rattle.ratfun_text.specs.Names.{names_of as variables_of}
 use Rattle.graph_file.specs.declared.error.FileError.{FileError}
 use Rattle.graph_file.specs.declared.error.FileKind.{FileKind}
 use Rattle.graph_file.specs.declared.error.FileKind.TheVariants as kind
 use Rattle.graph_file.specs.declared.job.Need.{Need}
 use Rattle.graph_file.specs.declared.line.Line.{Line}
 use Rattle.graph_file.specs.declared.reader.Reader.{Reader}
-use Rattle.graph_file.specs.Faults.{IsBadLine, IsGoodLine, Known, entries_in, last_of, node_names_in, points_in, unknowns_in, variables_in}
-use Rattle.graph_file.specs.File.{IsBadAt, IsFirstBad, IsGoodAt, IsGoodFile, said}
+use Rattle.graph_file.specs.Bounding.{all_in, bounds_given, coeff_in, special_in, widest}
+use Rattle.graph_file.specs.Facts.{entries_in, node_names_in, points_in, unknowns_in, variables_in}
+use Rattle.graph_file.specs.Faults.{IsBadLine, IsGoodLine, fault_after}
+use Rattle.graph_file.specs.Reader.{IsSound, last_of}
+use Rattle.graph_file.specs.Formed.{IsFormed}
+use Rattle.graph_file.specs.File.{IsBadAt, IsFirstBad, IsGoodAt, IsGoodFile, is_complete, said}
 use Rattle.graph_file.specs.Lines.{lines}
 use Rattle.graph_file.specs.Needed.{kinds_of}
 use Rattle.graph_file.specs.Says.{AreKinds, graph_name_in, output_in}
 
--- what the tests of a line ask of what the reader keeps
-abbrev pub known : Reader → Known
-known reader = record {
-  stood = reader.stood;
-  variables = length (variables_of reader.variables);
-  nodes = reader.table.names;
-  unknowns = reader.unknowns;
-  entries = reader.entries;
-  points = length reader.points;
-}
+-- what the reader keeps fits together
+abbrev pub FitsTogether : Reader → Type 0
+FitsTogether reader = IsSound reader.stood reader.name reader.variables reader.table.names reader.nodes.items reader.unknowns reader.entries reader.output reader.asked.points
 
--- the reader keeps what these lines say, the last of which stands first
+-- the reader keeps what these lines say, the last of which stands first, and that fits together
 pub record IsRead (earlier : List Line) (reader : Reader) : Type 0 where
   pub last_is : reader.stood ≡ last_of earlier
   pub name_is : reader.name ≡ graph_name_in earlier
@@ -35,28 +31,57 @@ pub record IsRead (earlier : List Line) (reader : Reader) : Type 0 where
   pub entries_are : reader.entries ≡ entries_in earlier
   pub kinds_are : AreKinds earlier (kinds_of reader.nodes.items)
   pub output_is : reader.output ≡ output_in earlier
-  pub points_are : reader.points ≡ points_in earlier
+  pub points_are : reader.asked.points ≡ points_in earlier
+  pub all_is : reader.asked.all ≡ all_in earlier
+  pub special_are : reader.asked.special ≡ special_in earlier
+  pub coeff_is : reader.asked.coeff ≡ coeff_in earlier
+  pub widest_is : reader.asked.widest ≡ widest (bounds_given (all_in earlier) (special_in earlier))
+  pub sound : FitsTogether reader
+
+-- nothing is wrong with any of these lines, the last of which stands first
+abbrev pub AreGoodLines : List Line → Type 0
+AreGoodLines [] = Unit {0}
+AreGoodLines (line ∷ before) = (most : ℕ) × (IsFormed most line × IsGoodLine before (Some line) × AreGoodLines before)
+
+-- the reader keeps lines with which nothing is wrong
+pub record KeepsGood (reader : Reader) : Type 0 where
+  pub earlier : List Line
+  pub read : IsRead earlier reader
+  pub good : AreGoodLines earlier
+
+-- the reader keeps lines behind which nothing is wrong with this one, its expressions apart
+pub record IsNextTo (reader : Reader) (line : Line) : Type 0 where
+  pub earlier : List Line
+  pub read : IsRead earlier reader
+  pub passes : fault_after earlier line ≡ None
+
+-- the reader keeps the lines of a file, with which nothing is wrong and of which nothing is missing
+pub record KeepsFile (need : Need) (reader : Reader) : Type 0 where
+  pub all : List Line
+  pub read : IsRead all reader
+  pub good : AreGoodLines all
+  pub complete : is_complete need all ≡ true
 
 -- a reader that keeps one more line, which says this
 abbrev pub Keeps : List Line → Option Line → Reader → Type 0
 Keeps earlier None reader = ⊥
 Keeps earlier (Some line) reader = IsGoodLine earlier (Some line) × IsRead (line ∷ earlier) reader
 
--- the answer to one more line, which says this: the reader keeps it too, or what is told of the line
-abbrev pub IsReadOn : List Line → Option Line → Result Reader FileKind → Type 0
-IsReadOn earlier said (Ok reader) = Keeps earlier said reader
-IsReadOn earlier said (Err kind.NoMemory) = Unit {0}
-IsReadOn earlier said (Err fault) = IsBadLine earlier said fault
+-- the answer to one more line, which says this: the reader keeps it too afterwards, or what is told of the line
+abbrev pub IsReadOn : List Line → Option Line → Reader → Result ⊤ FileKind → Type 0
+IsReadOn earlier said after (Ok done) = Keeps earlier said after
+IsReadOn earlier said after (Err kind.NoMemory) = Unit {0}
+IsReadOn earlier said after (Err fault) = IsBadLine earlier said fault
 
 -- a refusal of the line at this place, counted from 0, told with its number, counted from 1
 abbrev pub IsToldAt : List (List ℕ) → ℕ → ℕ → FileKind → Type 0
 IsToldAt all place number kind.NoMemory = number ≡ 0
 IsToldAt all place number fault = (number ≡ place + 1) × IsBadAt all place fault
 
--- the answer to the line at this place: nothing is wrong with it and the reader keeps it too, or its refusal
-abbrev pub IsNext : List (List ℕ) → ℕ → Result Reader FileError → Type 0
-IsNext all place (Ok reader) = IsGoodAt all place × IsRead (said (take (place + 1) all)) reader
-IsNext all place (Err error) = IsToldAt all place error.line error.kind
+-- the answer to the line at this place: nothing is wrong with it and the reader keeps it too afterwards, or its refusal
+abbrev pub IsNext : List (List ℕ) → ℕ → Reader → Result ⊤ FileError → Type 0
+IsNext all place after (Ok done) = IsGoodAt all place × IsRead (said (take (place + 1) all)) after
+IsNext all place after (Err error) = IsToldAt all place error.line error.kind
 
 -- why a file that is read for this is refused: what is told of it, or line 0 where memory ran out
 abbrev pub IsRefusal : Need → List ℕ → ℕ → FileKind → Type 0

@@ -1,5 +1,5 @@
 -- What is kept of the lines that have been read.
-use Rattle.std.specs.Prelude.{ℕ, ◌≡◌, ◌≢◌, ◌≤◌, ◌<◌, ◌+◌, Bool, true, false, IsTrue, List, [], ◌∷◌, ◌++◌, length, Option, Some, None, codes, slice_get}
+use Rattle.std.specs.Prelude.{ℕ, ◌≡◌, ◌≢◌, ◌≤◌, ◌<◌, ◌+◌, Bool, true, false, ◌||◌, IsTrue, List, [], ◌∷◌, ◌++◌, length, Option, Some, None, codes, slice_get}
 use Rattle.elim_core.specs.Sparse.{entries_of}
 use Rattle.elim_core.specs.declared.SparseRow.{SparseRow}
 use Rattle.ratfun_text.specs.Bytes.{is_name}
@@ -13,9 +13,48 @@ use Rattle.graph_file.specs.declared.graph.Source.{Source}
 use Rattle.graph_file.specs.declared.graph.Source.TheVariants as source
 use Rattle.graph_file.specs.declared.line.Last.{Last}
 use Rattle.graph_file.specs.declared.line.Last.TheVariants as last
-use Rattle.graph_file.specs.File.{has_output}
+use Rattle.graph_file.specs.declared.line.Line.{Line}
+use Rattle.graph_file.specs.declared.line.Line.TheVariants as line
+use Rattle.graph_file.specs.declared.line.Statement.{Statement}
+use Rattle.graph_file.specs.declared.line.Statement.TheVariants as statement
+use Rattle.graph_file.specs.Facts.{is_job_line}
+use Rattle.graph_file.specs.Faults.{goes_on, is_flow_line, is_graph_line, is_input_line, is_row_line}
 use Rattle.graph_file.specs.Says.{names_of}
 use Rattle.graph_file.specs.Sound.{AreFewRows, AreNames, IsKind, IsSparse}
+
+-- the kind of a `node` line
+abbrev pub node_stood : Statement → Last
+node_stood (statement.Sparse from unknowns want) = last.Sparse
+node_stood _ = last.Node
+
+-- the kind of the line that stood last
+abbrev pub last_of : List Line → Last
+last_of [] = last.Start
+last_of (line.Flow version ∷ before) = last.Flow
+last_of (line.Graph name ∷ before) = last.Graph
+last_of (line.Input names ∷ before) = last.Input
+last_of (line.Node name statement ∷ before) = node_stood statement
+last_of (line.Row columns ∷ before) = last.Row
+last_of (line.Output list ∷ before) = last.Output
+last_of (_ ∷ before) = last.Job
+
+-- which line may stand behind one of this kind
+abbrev pub stands_behind : Last → Line → Bool
+stands_behind last.Start line = is_flow_line line
+stands_behind last.Flow line = is_graph_line line
+stands_behind last.Graph line = is_input_line line
+stands_behind last.Input line = goes_on line
+stands_behind last.Node line = goes_on line
+stands_behind last.Sparse line = is_row_line line
+stands_behind last.Row line = is_row_line line || goes_on line
+stands_behind last.Output line = is_job_line line
+stands_behind last.Job line = is_job_line line
+
+-- the graph has its output
+abbrev pub is_ended : Last → Bool
+is_ended last.Output = true
+is_ended last.Job = true
+is_ended _ = false
 
 -- the graph has its name
 abbrev pub has_name : Last → Bool
@@ -27,7 +66,7 @@ has_name last.Node = true
 has_name last.Sparse = true
 has_name last.Row = true
 has_name last.Output = true
-has_name last.Point = true
+has_name last.Job = true
 
 -- the graph has its variables
 abbrev pub has_input : Last → Bool
@@ -39,7 +78,7 @@ has_input last.Node = true
 has_input last.Sparse = true
 has_input last.Row = true
 has_input last.Output = true
-has_input last.Point = true
+has_input last.Job = true
 
 -- 1 to 8 distinct names of at most 32 bytes
 pub record AreVariables (names : List (List ℕ)) : Type 0 where
@@ -101,7 +140,7 @@ pub record IsSound (stood : Last) (name : Option (List ℕ)) (variables : Names)
   pub inputs : has_input stood ≡ true → AreVariables (variables_of variables)
   pub listed : variables ≡ Listed (variables_of variables)
   pub few : length (variables_of variables) ≤ 8
-  pub ended : has_output stood ≡ true → output ≢ None
+  pub ended : is_ended stood ≡ true → output ≢ None
   pub no_node : has_input stood ≡ false → nodes ≡ []
   pub no_point : has_input stood ≡ false → points ≡ []
   pub names_are : names_of nodes ≡ names

@@ -1,5 +1,5 @@
 -- What a file says, in which nothing is wrong.
-use Rattle.std.specs.Prelude.{ℕ, ◌≡◌, ◌↔◌, IsTrue, if◌then◌else◌, List, [], ◌∷◌, ◌++◌, map, position, Option, Some, None, option_and_then, option_map, bytes_eq, codes, slice_get}
+use Rattle.std.specs.Prelude.{ℕ, ◌≡◌, ◌↔◌, IsTrue, if◌then◌else◌, List, [], ◌∷◌, ◌++◌, map, position, Option, Some, None, option_and_then, option_map, unwrap_or, bytes_eq, codes, slice_get}
 use Rattle.std.specs.List.{AllZip, range_with_len}
 use Rattle.elim_core.specs.declared.SparseRow.{SparseRow}
 use Rattle.ratfun_text.specs.Grammar.{IsTreeOf}
@@ -20,7 +20,14 @@ use Rattle.graph_file.specs.declared.line.Statement.{Statement}
 use Rattle.graph_file.specs.declared.line.Statement.TheVariants.{Eval, Take, Slice, Chain, Sum, Product, Matmul, Dense, Sparse}
 use Rattle.graph_file.specs.declared.line.Want.{Want}
 use Rattle.graph_file.specs.declared.line.Want.TheVariants.{Every, Numbers}
-use Rattle.graph_file.specs.Faults.{names_in, node_names_in, points_in, variables_in}
+use Rattle.poly_maps.specs.declared.bound.Bounds.{Bounds}
+use Rattle.rational_lift.specs.declared.coeff.Coeff.{Coeff}
+use Rattle.ray_grid.specs.declared.grid.Grid.{Grid}
+use Rattle.graph_file.specs.declared.job.Special.{Special}
+use Rattle.graph_file.specs.Bounded.{main_variables}
+use Rattle.graph_file.specs.Bounding.{all_in, bounds_among, bounds_given, coeff_in, coeff_or, grid_with, no_bounds, special_in, widest}
+use Rattle.graph_file.specs.Facts.{node_names_in, points_in, variables_in}
+use Rattle.graph_file.specs.Faults.{names_in}
 use Rattle.graph_file.specs.File.{said}
 use Rattle.graph_file.specs.Line.{all_of, texts_in}
 use Rattle.graph_file.specs.Lines.{lines}
@@ -103,35 +110,23 @@ last_with_row row (kind ∷ next ∷ later) = kind ∷ last_with_row row (next �
 -- what the nodes of the graph whose `graph` line stood last compute, in the order of the file
 abbrev pub AreKinds : List Line → List NodeKind → Type 0
 AreKinds [] kinds = kinds ≡ []
-AreKinds (line.Flow version ∷ before) kinds = AreKinds before kinds
 AreKinds (line.Graph name ∷ before) kinds = kinds ≡ []
-AreKinds (line.Input names ∷ before) kinds = AreKinds before kinds
 AreKinds (line.Node name statement ∷ before) kinds = (front : List NodeKind) × ((kind : NodeKind) × ((kinds ≡ front ++ kind ∷ []) × AreKinds before front × IsKindOf before name statement kind))
 AreKinds (line.Row columns ∷ before) kinds = (front : List NodeKind) × ((kinds ≡ last_with_row (record { columns = columns }) front) × AreKinds before front)
-AreKinds (line.Output list ∷ before) kinds = AreKinds before kinds
-AreKinds (line.Point entries ∷ before) kinds = AreKinds before kinds
+AreKinds (_ ∷ before) kinds = AreKinds before kinds
 
 -- the graph's name
 abbrev pub graph_name_in : List Line → Option (List ℕ)
 graph_name_in [] = None
-graph_name_in (line.Flow version ∷ before) = graph_name_in before
 graph_name_in (line.Graph name ∷ before) = Some name
-graph_name_in (line.Input names ∷ before) = graph_name_in before
-graph_name_in (line.Node name statement ∷ before) = graph_name_in before
-graph_name_in (line.Row columns ∷ before) = graph_name_in before
-graph_name_in (line.Output list ∷ before) = graph_name_in before
-graph_name_in (line.Point entries ∷ before) = graph_name_in before
+graph_name_in (_ ∷ before) = graph_name_in before
 
 -- the list that is the graph's output
 abbrev pub output_in : List Line → Option Source
 output_in [] = None
-output_in (line.Flow version ∷ before) = output_in before
 output_in (line.Graph name ∷ before) = None
-output_in (line.Input names ∷ before) = output_in before
-output_in (line.Node name statement ∷ before) = output_in before
-output_in (line.Row columns ∷ before) = output_in before
 output_in (line.Output list ∷ before) = source_named (node_names_in before) list
-output_in (line.Point entries ∷ before) = output_in before
+output_in (_ ∷ before) = output_in before
 
 -- the names of nodes
 abbrev pub names_of : List Node → List (List ℕ)
@@ -150,9 +145,20 @@ pub record SaysGraph (all : List Line) (graph : Graph) : Type 0 where
 pub record FileForm : Type 0 where
   pub graphs : List Graph
   pub points : List (List ℕ)
+  pub all : Option Bounds
+  pub special : List Special
+  pub coeff : Coeff
 
 abbrev pub form : Job → FileForm
-form job = record { graphs = job.graphs; points = job.points }
+form job = record { graphs = job.graphs; points = job.points; all = job.all; special = job.special; coeff = job.coeff }
+
+-- the bounds of the output with this number, counted from 1
+abbrev pub bounds_at : FileForm → ℕ → Bounds
+bounds_at what output = bounds_among what.special (unwrap_or what.all no_bounds) output
+
+-- the grid of degrees for all outputs
+abbrev pub grid_of : FileForm → Grid
+grid_of what = grid_with (main_variables what.graphs) (widest (bounds_given what.all what.special))
 
 -- a file that is read for this says this
 pub record Says (need : Need) (bytes : List ℕ) (what : FileForm) : Type 0 where
@@ -160,3 +166,6 @@ pub record Says (need : Need) (bytes : List ℕ) (what : FileForm) : Type 0 wher
   pub only : what.graphs ≡ graph ∷ []
   pub says_graph : SaysGraph (said (lines bytes)) graph
   pub points_are : what.points ≡ points_in (said (lines bytes))
+  pub all_is : what.all ≡ all_in (said (lines bytes))
+  pub special_are : what.special ≡ special_in (said (lines bytes))
+  pub coeff_is : what.coeff ≡ coeff_or (coeff_in (said (lines bytes)))

@@ -6,13 +6,13 @@ use thiserror::Error;
 #[derive(Clone, Copy, PartialEq, Eq, Debug, Error)]
 pub enum FileKind {
     /// The line may not stand there, fits no pattern, has a byte that isn't allowed, or has another number of
-    /// entries than there are variables.
+    /// entries or degrees than there are variables.
     #[error("syntax")]
     Syntax,
     /// The file has another version than 1.
     #[error("version")]
     Version,
-    /// A name is given again.
+    /// A name, bounds for the same outputs or bounds for coefficients are given again.
     #[error("repeated")]
     Repeated,
     /// No earlier node of the graph has the name, which isn't `input` either.
@@ -27,7 +27,7 @@ pub enum FileKind {
     /// The expression with this number, counted from 1, is refused.
     #[error("expression {expression} {error}")]
     Expr { expression: u32, error: ExprError },
-    /// The file ends before the output of its graph.
+    /// The file ends before the output of its graph, or where it is read for functions, without bounds for every output.
     #[error("missing")]
     Missing,
     /// There was no memory left.

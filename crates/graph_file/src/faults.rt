@@ -1,15 +1,22 @@
 //! What may be wrong with a line beside its expressions.
-ghost use Rattle.std.specs.Prelude.{◌≡◌, ◌+◌, [], map, length, nat_le, IfOk};
+ghost use Rattle.std.specs.Prelude.{◌≡◌, ◌+◌, ◌≤◌, List, [], map, length, nat_le, true, false, IfOk};
 ghost use Rattle.std.specs.List.{list_all};
 ghost use Rattle.ratfun_text.specs.Names.{names_of as variables_of};
 ghost use Rattle.graph_file.specs.Faults as spec;
-ghost use Rattle.graph_file.specs.Read.{known};
+ghost use Rattle.graph_file.specs.Read.{IsRead, KeepsGood};
+ghost use Rattle.graph_file.specs.Reader.{is_ended, stands_behind};
+ghost use Rattle.graph_file.specs.declared.line.Line.{Line as LineOf};
+ghost use Rattle.ray_grid.specs.Grid.{IsGrid};
 
+use crate::asked::{bounds_said, is_given, widened};
 use crate::error::FileKind;
-use crate::line::{Last, Line, Statement, Want};
+use crate::line::{Degrees, Last, Line, Statement, Want, Which};
 use crate::reader::Reader;
 use crate::table::Table;
+use multivar_recon::has_few;
+use poly_maps::Bounds;
 use ratfun_text::{Name, Names};
+use ray_grid::{Grid, size};
 use std::alloc::{AllocError, Global};
 
 /// The most bytes of a name that a line gives.
@@ -42,8 +49,14 @@ const ENTRIES: usize = 65536;
 /// What each entry of a point is below: 2^61 - 1.
 const ENTRY_LIMIT: u64 = 2305843009213693951;
 
+/// The greatest total degree of a bound.
+const TOTAL_DEGREE: u32 = 64;
+
+/// The greatest product of the bounds for numerators and denominators: twice as much is less than the product of the moduli.
+const COEFF_PRODUCT: u128 = 10633823966279326949795732848644194316;
+
 /// How many variables the graph has.
-fn count(variables: &Names) -> usize
+pub fn count(variables: &Names) -> usize
     ensures { result ≡ length (variables_of variables.now) }
 {
     match variables {
@@ -53,7 +66,7 @@ fn count(variables: &Names) -> usize
 }
 
 fn may_stand(stood: Last, line: &Line) -> bool
-    ensures { result ≡ spec.may_stand stood line.now }
+    ensures { result ≡ stands_behind stood line.now }
 {
     match (stood, line) {
         (Last::Start, Line::Flow(_))
@@ -61,22 +74,32 @@ fn may_stand(stood: Last, line: &Line) -> bool
         | (Last::Graph, Line::Input(_))
         | (Last::Input | Last::Node | Last::Row, Line::Node(_, _) | Line::Output(_))
         | (Last::Sparse | Last::Row, Line::Row(_))
-        | (Last::Output | Last::Point, Line::Point(_)) => true,
+        | (Last::Output | Last::Job, Line::Point(_) | Line::Bounds(_, _, _) | Line::Coeff(_, _)) =>
+            true,
         _ => false,
     }
 }
 
+fn are_degrees(variables: usize, degrees: &Degrees) -> bool
+    ensures { result ≡ spec.are_degrees variables degrees.now }
+{
+    degrees.each.len() == 0 || degrees.each.len() == variables
+}
+
 fn fits(reader: &Reader, line: &Line) -> bool
-    ensures { result ≡ spec.fits (known reader.now) line.now }
+    ensures { (earlier : List LineOf) → IsRead earlier reader.now → result ≡ spec.fits earlier line.now }
 {
     match line {
         Line::Point(entries) => entries.len() == count(&reader.variables),
+        Line::Bounds(_, num, den) => {
+            are_degrees(count(&reader.variables), num) && are_degrees(count(&reader.variables), den)
+        }
         _ => true,
     }
 }
 
 fn is_syntax(reader: &Reader, line: &Line) -> bool
-    ensures { result ≡ spec.is_syntax (known reader.now) line.now }
+    ensures { (earlier : List LineOf) → IsRead earlier reader.now → result ≡ spec.is_syntax earlier line.now }
 {
     !may_stand(reader.stood, line) || !fits(reader, line)
 }
@@ -111,7 +134,7 @@ fn are_new(alloc: Global, names: &[Name]) -> Result<bool, AllocError>
 }
 
 fn is_repeated(reader: &Reader, line: &Line) -> Result<bool, AllocError>
-    ensures { IfOk result (λ is_repeated. is_repeated ≡ spec.is_repeated (known reader.now) line.now) }
+    ensures { IfOk result (λ is_repeated. (earlier : List LineOf) → IsRead earlier reader.now → is_repeated ≡ spec.is_repeated earlier line.now) }
 {
     match line {
         Line::Input(names) => {
@@ -119,6 +142,8 @@ fn is_repeated(reader: &Reader, line: &Line) -> Result<bool, AllocError>
             Ok(!are_new)
         }
         Line::Node(name, _) => Ok(is_known(&reader.table, name.bytes())),
+        Line::Bounds(outputs, _, _) => Ok(is_given(&reader.asked, *outputs)),
+        Line::Coeff(_, _) => Ok(reader.asked.coeff.is_some()),
         _ => Ok(false),
     }
 }
@@ -162,7 +187,7 @@ fn are_lists_known(nodes: &Table, statement: &Statement) -> bool
 }
 
 fn is_unknown_node(reader: &Reader, line: &Line) -> bool
-    ensures { result ≡ spec.is_unknown_node (known reader.now) line.now }
+    ensures { (earlier : List LineOf) → IsRead earlier reader.now → result ≡ spec.is_unknown_node earlier line.now }
 {
     match line {
         Line::Node(_, statement) => !are_lists_known(&reader.table, statement),
@@ -311,8 +336,81 @@ fn is_room(entries: usize, more: usize) -> bool
     more <= ENTRIES && entries <= ENTRIES - more
 }
 
+fn is_which(outputs: Which) -> bool
+    ensures { result ≡ spec.is_which outputs }
+{
+    match outputs {
+        Which::All => true,
+        Which::Output(output) => is_position(output),
+    }
+}
+
+fn is_low(degrees: &Degrees) -> bool
+    ensures { result ≡ spec.is_low degrees.now }
+{
+    degrees.total <= TOTAL_DEGREE
+}
+
+fn are_numbers(outputs: Which, num: &Degrees, den: &Degrees) -> bool
+    ensures { result ≡ spec.are_numbers outputs num.now den.now }
+{
+    is_which(outputs) && is_low(num) && is_low(den)
+}
+
+/// Whether numerator and denominator have few monomials together.
+fn are_few(bounds: &Bounds, variables: u32) -> bool
+    requires { variables ≤ 8 }
+    ensures { result ≡ spec.has_few variables bounds.now }
+{
+    has_few(bounds, variables)
+}
+
+/// Whether attempts over the grid have few points.
+fn is_small(grid: &Grid) -> bool
+    requires { IsGrid grid.now }
+    ensures { result ≡ spec.is_small grid.now }
+{
+    size(grid).is_some()
+}
+
+/// Whether the numbers of a `bounds` line, its monomials and the grid of the lines so far are in their ranges.
+fn are_bounds(reader: &Reader, outputs: Which, num: &Degrees, den: &Degrees) -> bool
+    requires read { KeepsGood reader.now }
+    requires stands { is_ended reader.now.stood ≡ true }
+    requires fresh { spec.is_given reader.now.asked.all reader.now.asked.special outputs ≡ false }
+    ensures { (earlier : List LineOf) → IsRead earlier reader.now → result ≡ spec.are_bounds earlier outputs num.now den.now }
+{
+    if !are_numbers(outputs, num, den) {
+        return false;
+    }
+    let variables = count(&reader.variables);
+    let bounds = bounds_said(variables, num, den);
+    if !are_few(&bounds, variables as u32) {
+        return false;
+    }
+    let widest = widened(&reader.asked.widest, &bounds);
+    let each = widest.each;
+    is_small(&Grid {
+        variables: variables as u32,
+        total: widest.total,
+        each,
+    })
+}
+
+fn is_coeff(num: u128, den: u128) -> bool
+    ensures { result ≡ spec.is_coeff num den }
+{
+    let Some(product) = num.checked_mul(den) else {
+        return false;
+    };
+    1 <= num && 1 <= den && product <= COEFF_PRODUCT
+}
+
 fn is_limit(reader: &Reader, line: &Line) -> bool
-    ensures { result ≡ spec.is_limit (known reader.now) line.now }
+    requires read { KeepsGood reader.now }
+    requires stands { stands_behind reader.now.stood line.now ≡ true }
+    requires fresh { (earlier : List LineOf) → IsRead earlier reader.now → spec.is_repeated earlier line.now ≡ false }
+    ensures { (earlier : List LineOf) → IsRead earlier reader.now → result ≡ spec.is_limit earlier line.now }
 {
     match line {
         Line::Graph(name) => !is_short(name.bytes()),
@@ -322,14 +420,17 @@ fn is_limit(reader: &Reader, line: &Line) -> bool
             && is_in_range(statement)),
         Line::Row(columns) => !(are_columns(columns.as_slice(), reader.unknowns)
             && is_room(reader.entries, columns.len())),
-        Line::Point(_) => reader.points.len() >= POINTS,
-        _ => false,
+        Line::Point(_) => reader.asked.points.len() >= POINTS,
+        Line::Bounds(outputs, num, den) => !are_bounds(reader, *outputs, num, den),
+        Line::Coeff(num, den) => !is_coeff(*num, *den),
+        Line::Flow(_) | Line::Output(_) => false,
     }
 }
 
 /// The first thing that is wrong with the line, its expressions apart, behind the lines that the reader keeps.
 pub fn fault(reader: &Reader, line: &Line) -> Result<Option<FileKind>, AllocError>
-    ensures { IfOk result (λ fault. fault ≡ spec.fault_after (known reader.now) line.now) }
+    requires { KeepsGood reader.now }
+    ensures { IfOk result (λ fault. (earlier : List LineOf) → IsRead earlier reader.now → fault ≡ spec.fault_after earlier line.now) }
 {
     if is_syntax(reader, line) {
         return Ok(Some(FileKind::Syntax));

@@ -1,6 +1,8 @@
 //! Reads the file that describes graphs of numerical nodes and the points at which to evaluate them.
 #![tactic(auto)]
 
+mod asked;
+mod bounds;
 mod error;
 mod exprs;
 mod faults;
@@ -15,15 +17,13 @@ mod numbers;
 mod patterns;
 mod read;
 mod reader;
-mod steps;
 mod table;
-mod take_in;
 #[cfg(test)]
 mod tests;
 
 pub use error::{FileError, FileKind};
 pub use graph::{Graph, Node, NodeKind, Source};
-pub use job::{Job, Need};
-pub use laws::{no_fault, one_fault, one_form};
+pub use job::{Job, Need, Special};
+pub use laws::{no_fault, one_fault, one_form, said_bounds, said_grid, said_names};
 pub use needed::sources_of;
 pub use read::read_graphs;

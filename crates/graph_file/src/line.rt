@@ -19,6 +19,26 @@ pub enum Line {
     Output(Name),
     /// `point NUM ..`
     Point(Items<u64>),
+    /// `bounds WHICH num NUM .. den NUM ..`
+    Bounds(Which, Degrees, Degrees),
+    /// `coeff NUM NUM`: the greatest numerator and denominator of a coefficient
+    Coeff(u128, u128),
+}
+
+/// The outputs for which a `bounds` line gives bounds.
+#[derive(Clone, Copy, PartialEq, Eq, Debug)]
+pub enum Which {
+    /// `all`: each output that has no line of its own.
+    All,
+    /// The output with this number, counted from 1.
+    Output(u32),
+}
+
+/// What a `bounds` line says of one polynomial: its total degree, and then nothing or its degree in each variable.
+#[derive(Drop)]
+pub struct Degrees {
+    pub total: u32,
+    pub each: Items<u32>,
 }
 
 /// What a `node` line says of its node. Lists are given by their names.
@@ -97,5 +117,6 @@ pub enum Last {
     Sparse,
     Row,
     Output,
-    Point,
+    /// A line of the job: `point`, `bounds` or `coeff`.
+    Job,
 }

@@ -28,7 +28,7 @@ fn is_digits(text: &[u8]) -> bool
 
 /// The number that the text writes, or this greatest one where it is greater.
 #[tactic(auto, using(crate::proofs::Capped::capped_narrow, crate::proofs::Capped::capped_wide))]
-fn capped(text: &[u8], greatest: u64) -> Option<u64>
+fn capped(text: &[u8], greatest: u128) -> Option<u128>
     ensures value { result ≡ option_map (λ n. min n greatest) (number_of text.now) }
     ensures within { IfSome result (λ n. n ≤ greatest) }
 {
@@ -36,7 +36,7 @@ fn capped(text: &[u8], greatest: u64) -> Option<u64>
         return None;
     }
     match number(text) {
-        Some(value) if value < u128::from(greatest) => Some(value as u64),
+        Some(value) if value < greatest => Some(value),
         _ => Some(greatest),
     }
 }
@@ -45,14 +45,22 @@ fn capped(text: &[u8], greatest: u64) -> Option<u64>
 pub fn entry(word: &[u8]) -> Option<u64>
     ensures { result ≡ spec.entry_of word.now }
 {
-    capped(word, u64::MAX)
+    let entry = capped(word, u128::from(u64::MAX))?;
+    Some(entry as u64)
+}
+
+/// The bound for numerators or denominators that the word writes.
+pub fn wide(word: &[u8]) -> Option<u128>
+    ensures { result ≡ spec.wide_of word.now }
+{
+    capped(word, u128::MAX)
 }
 
 /// The position, the number of rows, columns or unknowns, or the number of an unknown that the word writes.
 pub fn size(word: &[u8]) -> Option<u32>
     ensures { result ≡ spec.size_of word.now }
 {
-    let size = capped(word, u64::from(u32::MAX))?;
+    let size = capped(word, u128::from(u32::MAX))?;
     Some(size as u32)
 }
 

@@ -1,13 +1,13 @@
 //! The patterns that a line may fit, each by the words behind its first one.
-ghost use Rattle.std.specs.Prelude.{◌≡◌, ◌+◌, ◌≤◌, ◌==◌, length, map, IfOk, IfSome, option_map};
+ghost use Rattle.std.specs.Prelude.{◌≡◌, ◌+◌, ◌≤◌, ◌==◌, length, drop, map, IfOk, IfSome, option_map};
 ghost use Rattle.std.specs.List.{list_all, slice_split};
 ghost use Rattle.ratfun_text.specs.Bytes as spec_bytes;
 ghost use Rattle.graph_file.specs.Formed.{IsFormed};
 ghost use Rattle.graph_file.specs.Line as spec;
 
-use crate::line::{Line, Statement, Want};
+use crate::line::{Degrees, Line, Statement, Want, Which};
 use crate::lines::{after_words, cut, is_plain, words};
-use crate::numbers::{are_ascending, entries, entry, size, sizes};
+use crate::numbers::{are_ascending, entries, entry, size, sizes, wide};
 use ratfun_text::Name;
 use ratfun_text::bytes::is_name;
 use sqlite_items::Items;
@@ -100,6 +100,96 @@ fn row_line(alloc: Global, words: &[&[u8]]) -> Result<Option<Line>, AllocError>
         return Ok(None);
     };
     Ok(Some(Line::Row(columns)))
+}
+
+/// A total degree, and then degrees in single variables.
+fn degrees(alloc: Global, words: &[&[u8]]) -> Result<Option<Degrees>, AllocError>
+    ensures { IfOk result (λ degrees. degrees ≡ spec.degrees_of (map (λ word. word.now) words.now)) }
+{
+    let [total, each @ ..] = words else {
+        return Ok(None);
+    };
+    let Some(total) = size(total) else {
+        return Ok(None);
+    };
+    let Some(each) = sizes(alloc, each)? else {
+        return Ok(None);
+    };
+    Ok(Some(Degrees { total, each }))
+}
+
+fn which(word: &[u8]) -> Option<Which>
+    ensures { result ≡ spec.which_of word.now }
+{
+    if word == b"all".as_slice() {
+        return Some(Which::All);
+    }
+    let output = size(word)?;
+    Some(Which::Output(output))
+}
+
+/// Where the word `den` stands first; behind the last word where there is none.
+fn den_place(words: &[&[u8]]) -> usize
+    ensures within { result ≤ length words.now }
+    ensures value { result ≡ spec.den_place (map (λ word. word.now) words.now) }
+{
+    words
+        .iter()
+        .position(|word| *word == b"den".as_slice())
+        .unwrap_or(words.len())
+}
+
+/// The words behind the first one; none where there is none.
+fn behind_first<'a>(words: &'a [&'a [u8]]) -> &'a [&'a [u8]]
+    ensures { map (λ word. word.now) result.now ≡ drop 1 (map (λ word. word.now) words.now) }
+{
+    match words {
+        [] => words,
+        [_, later @ ..] => later,
+    }
+}
+
+/// The degrees of a numerator, and behind the word `den` those of a denominator.
+fn both_degrees(alloc: Global, words: &[&[u8]]) -> Result<Option<(Degrees, Degrees)>, AllocError>
+    ensures { IfOk result (λ degrees. degrees ≡ spec.both_degrees (map (λ word. word.now) words.now)) }
+{
+    let (num, rest) = words.split_at(den_place(words));
+    let Some(num) = degrees(alloc, num)? else {
+        return Ok(None);
+    };
+    let Some(den) = degrees(alloc, behind_first(rest))? else {
+        return Ok(None);
+    };
+    Ok(Some((num, den)))
+}
+
+fn bounds_line(alloc: Global, words: &[&[u8]]) -> Result<Option<Line>, AllocError>
+    ensures { IfOk result (λ line. line ≡ spec.bounds_line (map (λ word. word.now) words.now)) }
+{
+    let [outputs, first, later @ ..] = words else {
+        return Ok(None);
+    };
+    if *first != b"num".as_slice() {
+        return Ok(None);
+    }
+    let Some(outputs) = which(outputs) else {
+        return Ok(None);
+    };
+    let Some((num, den)) = both_degrees(alloc, later)? else {
+        return Ok(None);
+    };
+    Ok(Some(Line::Bounds(outputs, num, den)))
+}
+
+fn coeff_line(words: &[&[u8]]) -> Option<Line>
+    ensures { result ≡ spec.coeff_line (map (λ word. word.now) words.now) }
+{
+    let [num, den] = words else {
+        return None;
+    };
+    let num = wide(num)?;
+    let den = wide(den)?;
+    Some(Line::Coeff(num, den))
 }
 
 /// The pieces of the text between semicolons.
@@ -389,6 +479,12 @@ fn line_of_words(alloc: Global, line: &[u8], words: &[&[u8]]) -> Result<Option<L
     }
     if *first == b"point".as_slice() {
         return point_line(alloc, later);
+    }
+    if *first == b"bounds".as_slice() {
+        return bounds_line(alloc, later);
+    }
+    if *first == b"coeff".as_slice() {
+        return Ok(coeff_line(later));
     }
     Ok(None)
 }

@@ -2,12 +2,14 @@
 ghost use Rattle.std.specs.Prelude.{◌≡◌, ◌≤◌, ℕ, List, Some, true, length, take, slice_get, IfErr, IfOk};
 ghost use Rattle.ratfun_text.specs.declared.names.Names.TheVariants.{Listed};
 ghost use Rattle.ratfun_text.specs.Names.{names_of as variables_of};
+ghost use Rattle.graph_file.specs.declared.line.Line.{Line as LineOf};
 ghost use Rattle.graph_file.specs.File as spec;
 ghost use Rattle.graph_file.specs.File.{IsGoodFile, said};
 ghost use Rattle.graph_file.specs.Lines as spec_lines;
-ghost use Rattle.graph_file.specs.Read.{AreRead, IsNext, IsRead, IsRefusal};
+ghost use Rattle.graph_file.specs.Read.{AreRead, IsNext, IsRead, IsRefusal, KeepsFile, KeepsGood};
 ghost use Rattle.graph_file.specs.Says.{Says, form};
 
+use crate::asked::coeff_or;
 use crate::error::{FileError, FileKind};
 use crate::graph::Graph;
 use crate::job::{Job, Need};
@@ -15,8 +17,6 @@ use crate::line::Last;
 use crate::lines::{cut, is_passed_over};
 use crate::needed::{marked_nodes, marks};
 use crate::reader::Reader;
-use crate::steps::first_reader;
-use crate::take_in::read_line;
 use ratfun_text::{Name, Names};
 use sqlite_items::Items;
 use std::alloc::{AllocError, Global};
@@ -28,17 +28,18 @@ fn is_idle_at(place: usize, line: &[u8]) -> bool
     place > 0 && is_passed_over(line)
 }
 
-/// The reader after the line at this place, counted from 0.
-fn next_line(reader: Reader, place: usize, line: &[u8]) -> Result<Reader, FileError>
+/// Reads the line at this place, counted from 0. After a refusal nothing is said of the reader.
+fn next_line(reader: &mut Reader, place: usize, line: &[u8]) -> Result<(), FileError>
     requires short { length line.now ≤ 16777216 }
     requires early { place ≤ 16777216 }
-    ensures { (all : List (List ℕ)) → slice_get all place ≡ Some line.now → IsRead (said (take place all)) reader → IsNext all place result }
+    requires read { KeepsGood reader.old }
+    ensures { (all : List (List ℕ)) → slice_get all place ≡ Some line.now → IsRead (said (take place all)) reader.old → IsNext all place reader.new result }
 {
     if is_idle_at(place, line) {
-        return Ok(reader);
+        return Ok(());
     }
-    match read_line(reader, line) {
-        Ok(reader) => Ok(reader),
+    match reader.read_line(line) {
+        Ok(()) => Ok(()),
         Err(kind) => Err(told(place, kind)),
     }
 }
@@ -57,31 +58,32 @@ fn told(place: usize, kind: FileKind) -> FileError
     }
 }
 
-/// Whether the graph's output has stood.
-fn has_output(stood: Last) -> bool
-    ensures { result ≡ spec.has_output stood }
+/// Whether nothing is missing of what the file is read for.
+fn is_complete(reader: &Reader, need: Need) -> bool
+    ensures { (all : List LineOf) → IsRead all reader.now → result ≡ spec.is_complete need all }
 {
-    stood == Last::Output || stood == Last::Point
+    let is_ended = reader.stood == Last::Output || reader.stood == Last::Job;
+    match need {
+        Need::Points | Need::Learning => is_ended,
+        Need::Functions => is_ended && reader.asked.all.is_some(),
+    }
 }
 
 /// The reader after all lines.
-fn read_lines(alloc: Global, bytes: &[u8], _need: Need) -> Result<Reader, FileError>
+fn read_lines(alloc: Global, bytes: &[u8], need: Need) -> Result<Reader, FileError>
     requires { length bytes.now ≤ 16777216 }
-    ensures { AreRead _need bytes.now result }
+    ensures { AreRead need bytes.now result }
 {
-    let mut reader = first_reader(alloc);
+    let mut reader = Reader::new(alloc);
     let mut place = 0;
     let mut rest = Some(bytes);
     while let Some(later) = rest {
         let (line, behind) = cut(later, b'\n');
-        reader = match next_line(reader, place, line) {
-            Ok(reader) => reader,
-            Err(error) => return Err(error),
-        };
+        next_line(&mut reader, place, line)?;
         place += 1;
         rest = behind;
     }
-    if !has_output(reader.stood) {
+    if !is_complete(&reader, need) {
         return Err(FileError {
             line: place,
             kind: FileKind::Missing,
@@ -102,21 +104,18 @@ fn listed(variables: Names) -> Items<Name>
 
 /// The job that the lines ask for.
 fn finish(reader: Reader, need: Need) -> Result<Job, AllocError>
-    requires { spec.has_output reader.stood ≡ true }
+    requires { KeepsFile need reader }
     ensures said { IfOk result (λ job. (bytes : List ℕ) → IsRead (said (spec_lines.lines bytes)) reader → Says need bytes (form job)) }
     ensures need { IfOk result (λ job. job.need ≡ need) }
 {
     let Reader {
         alloc,
-        stood: _,
         name,
         variables,
-        table: _,
         nodes,
-        unknowns: _,
-        entries: _,
         output,
-        points,
+        asked,
+        ..
     } = reader;
     let Some(name) = name else { unreachable!() };
     let Some(output) = output else { unreachable!() };
@@ -131,7 +130,10 @@ fn finish(reader: Reader, need: Need) -> Result<Job, AllocError>
     })?;
     Ok(Job {
         graphs,
-        points,
+        points: asked.points,
+        all: asked.all,
+        special: asked.special,
+        coeff: coeff_or(asked.coeff),
         need,
     })
 }
@@ -139,11 +141,14 @@ fn finish(reader: Reader, need: Need) -> Result<Job, AllocError>
 /// Reads the file with these bytes.
 ///
 /// A file has the line `flow 1`, then `graph NAME`, `input NAME ..`, any number of lines `node NAME KIND ..`, the line
-/// `output LIST`, and any number of lines `point NUM ..`. Lines of blanks and lines that begin with `#` are passed over,
-/// but not as line 1. The kinds of nodes are `eval LIST = EXPR ; ..`, `take LIST NUM ..`, `slice LIST NUM NUM`,
-/// `chain LIST ..`, `sum LIST ..`, `product LIST ..`, `matmul LIST LIST NUM NUM NUM`, `dense LIST NUM NUM` and
-/// `sparse LIST NUM`; behind the last two `want NUM ..` may stand. Behind a node of kind `sparse` stand its rows, one line
-/// `row NUM ..` or more, each with the ascending columns in which the row has values.
+/// `output LIST`, and any number of lines of the job: `point NUM ..`, `bounds WHICH num NUM .. den NUM ..` and
+/// `coeff NUM NUM`. Behind `num` and `den` stands a total degree, and then nothing or one degree for each variable; WHICH is
+/// `all` or the number of an output. Where the file is read for functions it has bounds for all. Lines of blanks and
+/// lines that begin with `#` are passed over, but not as line 1. The kinds of nodes are `eval LIST = EXPR ; ..`, `take
+/// LIST NUM ..`, `slice LIST NUM NUM`, `chain LIST ..`, `sum LIST ..`, `product LIST ..`, `matmul LIST LIST NUM NUM
+/// NUM`, `dense LIST NUM NUM` and `sparse LIST NUM`; behind the last two `want NUM ..` may stand. Behind a node of
+/// kind `sparse` stand its rows, one line `row NUM ..` or more, each with the ascending columns in which the row has
+/// values.
 ///
 /// A refusal tells the first bad line with the first kind of `FileKind`'s order that applies there, or `Missing` at the
 /// last line. Want of memory is the kind `NoMemory` at line 0.

@@ -1,0 +1,46 @@
+use Rattle.std.proofs.Common.{◌≡◌, ◌∙◌, ◌++◌, ◌∷◌, [], Some, ap, refl, sym, bytes_eq}
+use Rattle.std.specs.List.{list_any}
+use Rattle.std.proofs.lemmas.List.{map-append}
+use Rattle.graph_file.specs.declared.graph.Node.{Node as NodeOf}
+use Rattle.graph_file.specs.declared.table.Table.{Table}
+use Rattle.graph_file.specs.Needed.{kinds_of}
+use Rattle.graph_file.specs.Says.{kind_of}
+use Rattle.graph_file.proofs.KindLemmas.{IsOf, kind_is_of}
+use Rattle.graph_file.proofs.StepLemmas.{node-fits}
+use Rattle.graph_file.proofs.TakeLemmas.{kind-said, node-new, node-there}
+use Rattle.graph_file.proofs.reader.Reader.node.Goals as goal
+
+pub unreachable-requires : goal.unreachable-requires
+unreachable-requires c = node-there c.args.self.now c.args.name c.args.statement.now c.requires.passes c.args.exprs (sym c.in_ok-kind.ensures ∙ c.in_default.is)
+
+pub with-requires : goal.with-requires
+with-requires c =
+    ap (λ l. list_any (λ other. bytes_eq other l) c.replace-before.result.names) c.bytes.ensures
+    ∙ ap (λ (t : Table). list_any (λ other. bytes_eq other c.args.name) t.names) c.replace-before.ensures.value
+    ∙ node-new c.args.self.now c.args.name c.args.statement.now c.requires.passes
+
+pub returns : goal.returns
+returns c =
+    let is : kind_of c.args.self.now.table.names c.args.exprs c.args.statement.now ≡ Some c.in-Some.kind = sym c.in_ok-kind.ensures ∙ c.in-Some.is in
+    let of : IsOf c.args.statement.now c.in-Some.kind = kind_is_of c.args.self.now.table.names c.args.exprs c.args.statement.now c.in-Some.kind is in
+    let names : c.in_ok-table.table.names ≡ c.args.self.now.table.names ++ c.args.name ∷ [] =
+    c.in_ok-table.ensures
+    ∙ ap (λ l. c.replace-before.result.names ++ l ∷ []) c.bytes.ensures
+    ∙ ap (λ (t : Table). t.names ++ c.args.name ∷ []) c.replace-before.ensures.value
+    in
+    λ earlier read. record {
+      last_is = c.stood_after-self.ensures ∙ of.stood;
+      name_is = read.name_is;
+      variables_are = read.variables_are;
+      names_are = names ∙ ap (λ l. l ++ c.args.name ∷ []) read.names_are;
+      unknowns_are = c.unknowns_of-self.ensures ∙ of.unknowns;
+      entries_are = refl;
+      kinds_are = (kinds_of c.args.self.now.nodes.items, (c.in-Some.kind, (ap kinds_of c.in_ok-push.ensures.items ∙ map-append (λ (n : NodeOf). n.kind) c.args.self.now.nodes.items _, read.kinds_are, kind-said earlier c.args.self.now c.args.name c.args.statement.now c.args.exprs c.in-Some.kind read is c.requires.trees)));
+      output_is = read.output_is;
+      points_are = read.points_are;
+      all_is = read.all_is;
+      special_are = read.special_are;
+      coeff_is = read.coeff_is;
+      widest_is = read.widest_is;
+      sound = node-fits c.args.self.now c.args.name c.args.statement.now c.args.exprs c.in-Some.kind c.stood_after-self.result c.in_ok-table.table.names c.push.new.self.items c.unknowns_of-self.result c.requires.formed c.requires.passes is c.requires.trees c.requires.arguments c.stood_after-self.ensures names c.in_ok-push.ensures.items c.unknowns_of-self.ensures;
+    }

@@ -1,0 +1,60 @@
+-- What lines say of their graph and of the points. The lines stand in a list with the last one first, and those that are
+-- passed over are left out.
+use Rattle.std.specs.Prelude.{ℕ, ◌+◌, Bool, true, false, List, [], ◌∷◌, ◌++◌, length}
+use Rattle.graph_file.specs.declared.line.Line.{Line}
+use Rattle.graph_file.specs.declared.line.Line.TheVariants.{Graph, Input, Node, Row, Output, Point, Bounds, Coeff}
+use Rattle.graph_file.specs.declared.line.Statement.{Statement}
+use Rattle.graph_file.specs.declared.line.Statement.TheVariants.{Sparse}
+
+-- the variables of the graph whose `graph` line stood last
+abbrev pub variables_in : List Line → List (List ℕ)
+variables_in [] = []
+variables_in (Graph name ∷ before) = []
+variables_in (Input names ∷ before) = names
+variables_in (_ ∷ before) = variables_in before
+
+-- the names of its nodes, in the order of the file
+abbrev pub node_names_in : List Line → List (List ℕ)
+node_names_in [] = []
+node_names_in (Graph name ∷ before) = []
+node_names_in (Node name statement ∷ before) = node_names_in before ++ name ∷ []
+node_names_in (_ ∷ before) = node_names_in before
+
+-- the unknowns of a sparse node
+abbrev pub unknowns_of : Statement → ℕ
+unknowns_of (Sparse from unknowns want) = unknowns
+unknowns_of _ = 0
+
+-- the unknowns of the graph's last node, where that is sparse
+abbrev pub unknowns_in : List Line → ℕ
+unknowns_in [] = 0
+unknowns_in (Graph name ∷ before) = 0
+unknowns_in (Node name statement ∷ before) = unknowns_of statement
+unknowns_in (_ ∷ before) = unknowns_in before
+
+-- how many entries the rows of the graph's last node have so far
+abbrev pub entries_in : List Line → ℕ
+entries_in [] = 0
+entries_in (Graph name ∷ before) = 0
+entries_in (Node name statement ∷ before) = 0
+entries_in (Row columns ∷ before) = entries_in before + length columns
+entries_in (_ ∷ before) = entries_in before
+
+-- the points, in the order of the file
+abbrev pub points_in : List Line → List (List ℕ)
+points_in [] = []
+points_in (Point entries ∷ before) = points_in before ++ entries ∷ []
+points_in (_ ∷ before) = points_in before
+
+-- a line of the job
+abbrev pub is_job_line : Line → Bool
+is_job_line (Point entries) = true
+is_job_line (Bounds outputs num den) = true
+is_job_line (Coeff num den) = true
+is_job_line _ = false
+
+-- the line that stood last is the graph's `output`, or a line of the job
+abbrev pub has_output : List Line → Bool
+has_output [] = false
+has_output (Output list ∷ before) = true
+has_output (line ∷ before) = is_job_line line
