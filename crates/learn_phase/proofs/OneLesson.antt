@@ -1,17 +1,16 @@
--- The graphs and points of a file have at most one lesson.
+-- The graphs of a file have at most one lesson under a rule.
 use Rattle.std.proofs.Common.{◌≡◌, ℕ, zero, suc, ◌<◌, ◌≤◌, Bool, true, false, MatchBool, List, [], ◌∷◌, ◌++◌, length, take, get_or, Some, refl, sym, ◌∙◌, ap, subst, arith, inl, inr, lit<}
 use Rattle.std.specs.Prelude.{slice_get}
 use Rattle.std.proofs.lemmas.Option.{get_or_from_slice_get, slice_get_within}
 use Rattle.std.proofs.Math.Seq.{take-suc, take-length}
 use Rattle.graph_file.specs.declared.graph.Graph.{Graph}
-use Rattle.graph_file.specs.declared.job.Need.{Need}
 use Rattle.graph_eval.specs.declared.fresh.Fresh.{Fresh}
 use Rattle.graph_eval.specs.declared.fresh.Fresh.TheVariants as fresh
 use Rattle.graph_eval.specs.declared.learned.GraphLearned.{GraphLearned}
 use Rattle.graph_eval.specs.declared.outcome.Singular.{Singular}
 use Rattle.graph_eval.specs.Fresh.{IsFreshAt}
 use Rattle.graph_eval.specs.Learned.{FailsLength, FitsGraph, has_solver, outputs_of, sets_of}
-use Rattle.learn_phase.specs.LearnedSets.{AllSingular, AnswersAt, AnswersFirst, AreSingular, BreaksLength, BreaksNeed, Broken, FirstLearn, GivesBehind, GraphLesson, LearnedSets, Learns, LearnsAtPoints, LearnsByRules, LearnsGraph, Lesson, MeetsNeed, NoPoint, Place, Taught, learning_modulus, output_node}
+use Rattle.learn_phase.specs.LearnedSets.{AllSingular, AnswersAt, AnswersFirst, AreSingular, BreaksLength, BreaksRule, Broken, FirstLearn, GivesBehind, GraphLesson, Learns, LearnsAtPoints, LearnsByRules, LearnsGraph, LearnsUnder, Lesson, NoPoint, Place, Taught, learning_modulus, output_node}
 use Rattle.learn_phase.specs.Points.{learning_point}
 use Rattle.graph_eval.proofs.OneLength.{learned_same}
 use Rattle.graph_eval.proofs.Places.{stands}
@@ -172,17 +171,17 @@ module _ (laws : Laws) (graphs : List Graph) where
       subst (λ (g : Graph). LearnsGraph (behind graphs first.learned number) g b) graph (subst (λ (ls : List GraphLearned). LearnsGraph (behind graphs ls number) moved.graph b) before moved.gives) in
       (same, graph_once laws (behind graphs first.learned number) first.graph first.is_graph a b first.gives here)
 
-  breaks_once : (need : Need) (points : List (List ℕ)) (number other n k : ℕ) → BreaksNeed need graphs points number n → BreaksNeed need graphs points other k → (number ≡ other) × (n ≡ k)
-  breaks_once need points number other n k first second =
+  breaks_once : (rule : ℕ → Type 0) (number other n k : ℕ) → BreaksRule rule graphs number n → BreaksRule rule graphs other k → (number ≡ other) × (n ≡ k)
+  breaks_once rule number other n k first second =
       let same : number ≡ other = first.is_main ∙ sym second.is_main in
       let both : Some first.graph ≡ Some second.graph = sym first.is_graph ∙ ap (slice_get graphs) same ∙ second.is_graph in
       let graph : first.graph ≡ second.graph = cc in
       (same, first.is_output ∙ ap (λ (g : Graph). output_node g.output) graph ∙ sym second.is_output)
 
   -- the job's own rule holds or fails
-  meets_or_breaks : {C : Type 0} (need : Need) (points : List (List ℕ)) (a : List GraphLearned) (number node : ℕ) → FirstLearn graphs a (length graphs) → MeetsNeed need (length points) (outputs_of a) → BreaksNeed need graphs points number node → C
-  meets_or_breaks need points a number node first meets fails =
-      absurd (fails.breaks (subst (λ (ls : List GraphLearned). MeetsNeed need (length points) (outputs_of ls)) (learned_once a fails.learned (length graphs) (omega arith) first fails.all) meets))
+  meets_or_breaks : {C : Type 0} (rule : ℕ → Type 0) (a : List GraphLearned) (number node : ℕ) → FirstLearn graphs a (length graphs) → rule (outputs_of a) → BreaksRule rule graphs number node → C
+  meets_or_breaks rule a number node first meets fails =
+      absurd (fails.breaks (subst (λ (ls : List GraphLearned). rule (outputs_of ls)) (learned_once a fails.learned (length graphs) (omega arith) first fails.all) meets))
 
   broken_once : (number other n k : ℕ) → GivesBehind graphs number (Broken n) → GivesBehind graphs other (Broken k) → (number ≡ other) × (n ≡ k)
   broken_once number other n k first second =
@@ -193,26 +192,26 @@ module _ (laws : Laws) (graphs : List Graph) where
   length_once : (g h n k : ℕ) → (g ≡ h) × (n ≡ k) → BreaksLength g n ≡ BreaksLength h k
   length_once g h n k same = ap (λ x. BreaksLength x n) same.0 ∙ ap (λ x. BreaksLength h x) same.1
 
-  pub lesson_once : (need : Need) (points : List (List ℕ)) (a b : Lesson) → LearnedSets need graphs points a → LearnedSets need graphs points b → a ≡ b
-  lesson_once need points (Learns xs) (Learns ys) first second = ap Learns (learned_once xs ys (length graphs) (omega arith) first.0 second.0)
-  lesson_once need points (Learns xs) (NoPoint h ys) first second = learned_or_stopped xs h (AllSingular ys) first.0 second (all_singular_stops ys)
-  lesson_once need points (Learns xs) (BreaksLength h k) first (inl second) = learned_or_stopped xs h (Broken k) first.0 second (broken_stops k)
-  lesson_once need points (Learns xs) (BreaksLength h k) first (inr second) = meets_or_breaks need points xs h k first.0 first.1 second
-  lesson_once need points (NoPoint g xs) (Learns ys) first second = learned_or_stopped ys g (AllSingular xs) second.0 first (all_singular_stops xs)
-  lesson_once need points (NoPoint g xs) (NoPoint h ys) first second =
+  pub lesson_once : (rule : ℕ → Type 0) (a b : Lesson) → LearnsUnder rule graphs a → LearnsUnder rule graphs b → a ≡ b
+  lesson_once rule (Learns xs) (Learns ys) first second = ap Learns (learned_once xs ys (length graphs) (omega arith) first.0 second.0)
+  lesson_once rule (Learns xs) (NoPoint h ys) first second = learned_or_stopped xs h (AllSingular ys) first.0 second (all_singular_stops ys)
+  lesson_once rule (Learns xs) (BreaksLength h k) first (inl second) = learned_or_stopped xs h (Broken k) first.0 second (broken_stops k)
+  lesson_once rule (Learns xs) (BreaksLength h k) first (inr second) = meets_or_breaks rule xs h k first.0 first.1 second
+  lesson_once rule (NoPoint g xs) (Learns ys) first second = learned_or_stopped ys g (AllSingular xs) second.0 first (all_singular_stops xs)
+  lesson_once rule (NoPoint g xs) (NoPoint h ys) first second =
       let same = stop_once g h (AllSingular xs) (AllSingular ys) first second (all_singular_stops xs) (all_singular_stops ys) in
       let told : AllSingular xs ≡ AllSingular ys = same.1 in
       let nodes : xs ≡ ys = cc in
       ap (λ x. NoPoint x xs) same.0 ∙ ap (λ x. NoPoint h x) nodes
-  lesson_once need points (NoPoint g xs) (BreaksLength h k) first (inl second) =
+  lesson_once rule (NoPoint g xs) (BreaksLength h k) first (inl second) =
       let told : AllSingular xs ≡ Broken k = (stop_once g h (AllSingular xs) (Broken k) first second (all_singular_stops xs) (broken_stops k)).1 in cc
-  lesson_once need points (NoPoint g xs) (BreaksLength h k) first (inr second) = learned_or_stopped second.learned g (AllSingular xs) second.all first (all_singular_stops xs)
-  lesson_once need points (BreaksLength g n) (Learns ys) (inl first) second = learned_or_stopped ys g (Broken n) second.0 first (broken_stops n)
-  lesson_once need points (BreaksLength g n) (Learns ys) (inr first) second = meets_or_breaks need points ys g n second.0 second.1 first
-  lesson_once need points (BreaksLength g n) (NoPoint h ys) (inl first) second =
+  lesson_once rule (NoPoint g xs) (BreaksLength h k) first (inr second) = learned_or_stopped second.learned g (AllSingular xs) second.all first (all_singular_stops xs)
+  lesson_once rule (BreaksLength g n) (Learns ys) (inl first) second = learned_or_stopped ys g (Broken n) second.0 first (broken_stops n)
+  lesson_once rule (BreaksLength g n) (Learns ys) (inr first) second = meets_or_breaks rule ys g n second.0 second.1 first
+  lesson_once rule (BreaksLength g n) (NoPoint h ys) (inl first) second =
       let told : Broken n ≡ AllSingular ys = (stop_once g h (Broken n) (AllSingular ys) first second (broken_stops n) (all_singular_stops ys)).1 in cc
-  lesson_once need points (BreaksLength g n) (NoPoint h ys) (inr first) second = learned_or_stopped first.learned h (AllSingular ys) first.all second (all_singular_stops ys)
-  lesson_once need points (BreaksLength g n) (BreaksLength h k) (inl first) (inl second) = length_once g h n k (broken_once g h n k first second)
-  lesson_once need points (BreaksLength g n) (BreaksLength h k) (inl first) (inr second) = learned_or_stopped second.learned g (Broken n) second.all first (broken_stops n)
-  lesson_once need points (BreaksLength g n) (BreaksLength h k) (inr first) (inl second) = learned_or_stopped first.learned h (Broken k) first.all second (broken_stops k)
-  lesson_once need points (BreaksLength g n) (BreaksLength h k) (inr first) (inr second) = length_once g h n k (breaks_once need points g h n k first second)
+  lesson_once rule (BreaksLength g n) (NoPoint h ys) (inr first) second = learned_or_stopped first.learned h (AllSingular ys) first.all second (all_singular_stops ys)
+  lesson_once rule (BreaksLength g n) (BreaksLength h k) (inl first) (inl second) = length_once g h n k (broken_once g h n k first second)
+  lesson_once rule (BreaksLength g n) (BreaksLength h k) (inl first) (inr second) = learned_or_stopped second.learned g (Broken n) second.all first (broken_stops n)
+  lesson_once rule (BreaksLength g n) (BreaksLength h k) (inr first) (inl second) = learned_or_stopped first.learned h (Broken k) first.all second (broken_stops k)
+  lesson_once rule (BreaksLength g n) (BreaksLength h k) (inr first) (inr second) = length_once g h n k (breaks_once rule g h n k first second)

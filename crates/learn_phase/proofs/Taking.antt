@@ -6,6 +6,7 @@ use Rattle.std.proofs.lemmas.Option.{slice_get_within}
 use Rattle.std.proofs.Math.Seq.{take-length}
 use Rattle.graph_file.specs.declared.graph.Graph.{Graph}
 use Rattle.graph_file.specs.declared.job.Need.{Need}
+use Rattle.graph_file.specs.Says.{FileForm}
 use Rattle.graph_eval.specs.declared.learned.GraphLearned.{GraphLearned}
 use Rattle.learn_phase.specs.declared.error.LearnError.{LearnError}
 use Rattle.learn_phase.specs.declared.error.LearnError.TheVariants as error
@@ -44,16 +45,16 @@ FirstLearn-more graphs learned more count graph added first is new joined =
     })
 
 -- a graph that can't be learned stops the learning
-pub stopped : (need : Need) (graphs : List Graph) (points : List (List ℕ)) (learned : List GraphLearned) (number : ℕ) (graph : Graph) (why : LearnError) → FirstLearn graphs learned number → slice_get graphs number ≡ Some graph
-    → TellsGraph (behind graphs learned number) graph (Err why) → Tells need graphs points (Err why)
-stopped need graphs points learned number graph (error.NoLearningPoint told singular) first is tells =
-    subst (λ (n : ℕ). GivesBehind graphs n (AllSingular singular)) (sym tells.0) (record { learned = learned; before = first; graph = graph; is_graph = is; gives = tells.1 })
-stopped need graphs points learned number graph (error.Length told node) first is tells =
-    inl (subst (λ (n : ℕ). GivesBehind graphs n (Broken node)) (sym tells.0) (record { learned = learned; before = first; graph = graph; is_graph = is; gives = tells.1 }))
-stopped need graphs points learned number graph error.NoMemory first is tells = tt
+pub stopped : (need : Need) (form : FileForm) (learned : List GraphLearned) (number : ℕ) (graph : Graph) (why : LearnError) → FirstLearn form.graphs learned number → slice_get form.graphs number ≡ Some graph
+    → TellsGraph (behind form.graphs learned number) graph (Err why) → Tells need form (Err why)
+stopped need form learned number graph (error.NoLearningPoint told singular) first is tells =
+    subst (λ (n : ℕ). GivesBehind form.graphs n (AllSingular singular)) (sym tells.0) (record { learned = learned; before = first; graph = graph; is_graph = is; gives = tells.1 })
+stopped need form learned number graph (error.Length told node) first is tells =
+    inl (subst (λ (n : ℕ). GivesBehind form.graphs n (Broken node)) (sym tells.0) (record { learned = learned; before = first; graph = graph; is_graph = is; gives = tells.1 }))
+stopped need form learned number graph error.NoMemory first is tells = tt
 
-pub stopped_fits : (need : Need) (graphs : List Graph) (points : List (List ℕ)) (learned : List GraphLearned) (number : ℕ) (graph : Graph) (why : LearnError) → slice_get graphs number ≡ Some graph
-    → FitsAnswer (behind graphs learned number) graph (Err why) → FitsJob need graphs points (Err why)
-stopped_fits need graphs points learned number graph (error.NoLearningPoint told singular) is fits = (graph, ap (slice_get graphs) fits.0 ∙ is, fits.1)
-stopped_fits need graphs points learned number graph (error.Length told node) is fits = (graph, ap (slice_get graphs) fits ∙ is)
-stopped_fits need graphs points learned number graph error.NoMemory is fits = tt
+pub stopped_fits : (need : Need) (form : FileForm) (learned : List GraphLearned) (number : ℕ) (graph : Graph) (why : LearnError) → slice_get form.graphs number ≡ Some graph
+    → FitsAnswer (behind form.graphs learned number) graph (Err why) → FitsJob need form (Err why)
+stopped_fits need form learned number graph (error.NoLearningPoint told singular) is fits = (graph, ap (slice_get form.graphs) fits.0 ∙ is, fits.1)
+stopped_fits need form learned number graph (error.Length told node) is fits = (graph, ap (slice_get form.graphs) fits ∙ is)
+stopped_fits need form learned number graph error.NoMemory is fits = tt

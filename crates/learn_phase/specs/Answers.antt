@@ -2,6 +2,7 @@
 use Rattle.std.specs.Prelude.{◌≡◌, ℕ, ⊤, List, length, slice_get, Some, Result, Ok, Err}
 use Rattle.graph_file.specs.declared.graph.Graph.{Graph}
 use Rattle.graph_file.specs.declared.job.Need.{Need}
+use Rattle.graph_file.specs.Says.{FileForm}
 use Rattle.graph_eval.specs.declared.fresh.Fresh.TheVariants as fresh
 use Rattle.graph_eval.specs.declared.learned.GraphLearned.{GraphLearned}
 use Rattle.graph_eval.specs.declared.outcome.Singular.{Singular}
@@ -27,11 +28,11 @@ TellsGraph place graph (Err (error.Length number node)) = (number ≡ place.numb
 TellsGraph place graph (Err error.NoMemory) = ⊤
 
 -- learning a job's graphs gave their lesson
-abbrev pub Tells : Need → List Graph → List (List ℕ) → Result (List GraphLearned) LearnError → Type 0
-Tells need graphs points (Ok learned) = LearnedSets need graphs points (Learns learned)
-Tells need graphs points (Err (error.NoLearningPoint graph first)) = LearnedSets need graphs points (NoPoint graph first)
-Tells need graphs points (Err (error.Length graph node)) = LearnedSets need graphs points (BreaksLength graph node)
-Tells need graphs points (Err error.NoMemory) = ⊤
+abbrev pub Tells : Need → FileForm → Result (List GraphLearned) LearnError → Type 0
+Tells need form (Ok learned) = LearnedSets need form (Learns learned)
+Tells need form (Err (error.NoLearningPoint graph first)) = LearnedSets need form (NoPoint graph first)
+Tells need form (Err (error.Length graph node)) = LearnedSets need form (BreaksLength graph node)
+Tells need form (Err error.NoMemory) = ⊤
 
 -- each of these nodes is one of the graph, and needed
 abbrev pub AreNeeded : Graph → List Singular → Type 0
@@ -54,8 +55,8 @@ FitsAnswer place graph (Err error.NoMemory) = ⊤
 
 -- whatever the modulus: what was learned fits the job and its own rule holds, and where nodes have no value they are needed
 -- nodes of a graph of the job
-abbrev pub FitsJob : Need → List Graph → List (List ℕ) → Result (List GraphLearned) LearnError → Type 0
-FitsJob need graphs points (Ok learned) = Fits graphs learned × MeetsNeed need (length points) (outputs_of learned)
-FitsJob need graphs points (Err (error.NoLearningPoint number first)) = (graph : Graph) × (slice_get graphs number ≡ Some graph) × AreNeeded graph first
-FitsJob need graphs points (Err (error.Length number node)) = (graph : Graph) × (slice_get graphs number ≡ Some graph)
-FitsJob need graphs points (Err error.NoMemory) = ⊤
+abbrev pub FitsJob : Need → FileForm → Result (List GraphLearned) LearnError → Type 0
+FitsJob need form (Ok learned) = Fits form.graphs learned × MeetsNeed need form (outputs_of learned)
+FitsJob need form (Err (error.NoLearningPoint number first)) = (graph : Graph) × (slice_get form.graphs number ≡ Some graph) × AreNeeded graph first
+FitsJob need form (Err (error.Length number node)) = (graph : Graph) × (slice_get form.graphs number ≡ Some graph)
+FitsJob need form (Err error.NoMemory) = ⊤

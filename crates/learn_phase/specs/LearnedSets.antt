@@ -7,6 +7,9 @@ use Rattle.graph_file.specs.declared.graph.Source.{Source}
 use Rattle.graph_file.specs.declared.graph.Source.TheVariants.{Input, Node}
 use Rattle.graph_file.specs.declared.job.Need.{Need}
 use Rattle.graph_file.specs.declared.job.Need.TheVariants as need
+use Rattle.graph_file.specs.declared.job.Special.{Special}
+use Rattle.graph_file.specs.Says.{FileForm, grid_of}
+use Rattle.ray_grid.specs.Grid.{point_count}
 use Rattle.graph_eval.specs.declared.fresh.Fresh.{Fresh}
 use Rattle.graph_eval.specs.declared.fresh.Fresh.TheVariants as fresh
 use Rattle.graph_eval.specs.declared.learned.GraphLearned.{GraphLearned}
@@ -78,22 +81,28 @@ pub record GivesBehind (graphs : List Graph) (number : ℕ) (lesson : GraphLesso
   pub is_graph : slice_get graphs number ≡ Some graph
   pub gives : LearnsGraph (record { graphs = graphs; learned = learned; number = number }) graph lesson
 
--- The rule that the job itself has for its output, by what it is read for, the number of its points and the length of the
--- output.
-abbrev pub MeetsNeed : Need → ℕ → ℕ → Type 0
-MeetsNeed need.Points points outputs = points * outputs ≤ 1048576
-MeetsNeed need.Learning points outputs = ⊤
+-- each output that has bounds of its own is there
+abbrev pub AreThere : ℕ → List Special → Type 0
+AreThere outputs special = (k : ℕ) (own : Special) → slice_get special k ≡ Some own → own.output ≤ outputs
+
+-- The rule that the job itself has for its output, by what it is read for, what it says, and the length of the output:
+-- there are at most 1048576 residues at all points together, which are those of the file or, for functions, those of an attempt.
+abbrev pub MeetsNeed : Need → FileForm → ℕ → Type 0
+MeetsNeed need.Points form outputs = length form.points * outputs ≤ 1048576
+MeetsNeed need.Learning form outputs = ⊤
+MeetsNeed need.Functions form outputs = (point_count (grid_of form) * outputs ≤ 1048576) × AreThere outputs form.special
 
 -- the node of a graph's output, 0 where the output is the input
 abbrev pub output_node : Source → ℕ
 output_node Input = 0
 output_node (Node number) = number
 
--- all graphs are learned, and the job's own rule fails at the output, this node of the main graph, which has this number
-pub record BreaksNeed (need : Need) (graphs : List Graph) (points : List (List ℕ)) (number node : ℕ) : Type 0 where
+-- all graphs are learned, and a rule for the length of the output fails, told at this node of the main graph, which has this
+-- number
+pub record BreaksRule (rule : ℕ → Type 0) (graphs : List Graph) (number node : ℕ) : Type 0 where
   pub learned : List GraphLearned
   pub all : FirstLearn graphs learned (length graphs)
-  pub breaks : MeetsNeed need (length points) (outputs_of learned) → ⊥
+  pub breaks : rule (outputs_of learned) → ⊥
   pub is_main : number ≡ main_number graphs
   pub graph : Graph
   pub is_graph : slice_get graphs number ≡ Some graph
@@ -107,8 +116,12 @@ pub data Lesson : Type 0 where
   NoPoint : (graph : ℕ) (first : List Singular) → Lesson
   BreaksLength : (graph node : ℕ) → Lesson
 
--- the lesson of a file that is read for this, with these graphs and points
-abbrev pub LearnedSets : Need → List Graph → List (List ℕ) → Lesson → Type 0
-LearnedSets need graphs points (Learns learned) = FirstLearn graphs learned (length graphs) × MeetsNeed need (length points) (outputs_of learned)
-LearnedSets need graphs points (NoPoint graph first) = GivesBehind graphs graph (AllSingular first)
-LearnedSets need graphs points (BreaksLength graph node) = GivesBehind graphs graph (Broken node) ⊎ BreaksNeed need graphs points graph node
+-- the lesson of graphs, where this is the rule for the length of the output
+abbrev pub LearnsUnder : (ℕ → Type 0) → List Graph → Lesson → Type 0
+LearnsUnder rule graphs (Learns learned) = FirstLearn graphs learned (length graphs) × rule (outputs_of learned)
+LearnsUnder rule graphs (NoPoint graph first) = GivesBehind graphs graph (AllSingular first)
+LearnsUnder rule graphs (BreaksLength graph node) = GivesBehind graphs graph (Broken node) ⊎ BreaksRule rule graphs graph node
+
+-- the lesson of a file that is read for this and says this
+abbrev pub LearnedSets : Need → FileForm → Lesson → Type 0
+LearnedSets need form lesson = LearnsUnder (MeetsNeed need form) form.graphs lesson

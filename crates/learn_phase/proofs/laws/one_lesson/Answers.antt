@@ -1,4 +1,5 @@
 -- The law follows from those of the definitions below.
+use Rattle.learn_phase.specs.LearnedSets.{MeetsNeed}
 use Rattle.learn_phase.proofs.OneLesson.{Laws, lesson_once}
 use Rattle.learn_phase.proofs.laws.one_lesson.Goals as goal
 
@@ -13,4 +14,4 @@ returns c =
       either = c.one_length.ensures.either;
       node = c.one_length.ensures.node;
     } in
-    λ need graphs points a b first second. lesson_once laws graphs need points a b first second
+    λ need form a b first second. lesson_once laws form.graphs (MeetsNeed need form) a b first second
