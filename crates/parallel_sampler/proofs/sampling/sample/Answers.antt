@@ -1,0 +1,26 @@
+-- The next point's row joins the rows.
+use Rattle.std.proofs.Common.{◌≡◌, length, ap, arith}
+use Rattle.std.specs.Prelude.{slice_get}
+use Rattle.prime_field.specs.Modulus.{value_of}
+use Rattle.prime_field.specs.Residue.{IsPrime}
+use Rattle.graph_eval.specs.GraphValue.{GraphValue, main_number}
+use Rattle.graph_eval.specs.Learned.{outputs_of, sets_of}
+use Rattle.parallel_sampler.proofs.Tables.{rows_many, table_next}
+use Rattle.parallel_sampler.proofs.sampling.sample.Goals as goal
+
+pub loop-point-preserved : goal.loop-point-preserved
+loop-point-preserved c =
+    let m = value_of c.args.m in
+    let graphs = c.args.job.now.graphs in
+    let learned = c.args.learned.now in
+    let own : length c.eval_point.new.out ≡ outputs_of c.args.learned.now = omega (arith, c.loop-point.invariant.1, c.eval_point.auto.out) in (
+      c.in_ok-outcome.ensures.made,
+      own,
+      table_next m (IsPrime m) (GraphValue m graphs (sets_of learned) (main_number graphs)) (slice_get graphs (main_number graphs)) (outputs_of learned) c.args.points.now c.loop-point.point-index c.loop-point.words.items c.eval_point.new.out
+          c.extend_from_slice.new.self.items c.loop-point.told.items c.push.new.self.items c.told_by.result c.point-item.result c.in_ok-outcome.outcome c.loop-point.invariant.2 c.loop-point-test.true c.point-item.is own
+          (c.told_by.ensures c.eval_point.new.out) c.in_ok-outcome.ensures.value c.in_ok-outcome.ensures.fits c.in_ok-extend_from_slice.ensures.items c.in_ok-push.ensures.items,
+    )
+
+pub returns-clause-count : goal.returns-clause-count
+returns-clause-count c =
+    omega (arith, ap length c.of.ensures, rows_many c.outputs-outputs.result c.loop-point.words.items c.loop-point.told.items, c.loop-point.invariant.2.many, c.loop-point-test.false, c.loop-point.auto.point-index-end)

@@ -1,0 +1,19 @@
+//! What a job's main graph has at one point after another, in rows.
+//!
+//! [`sample`] evaluates the main graph at points and keeps a row for each: the values of its outputs, or the first node
+//! without a value.
+#![tactic(auto)]
+
+mod laws;
+mod samples;
+mod sampling;
+
+pub use laws::one_table;
+pub use samples::Samples;
+pub use sampling::sample;
+
+/// Memory ran out.
+pub type NoMemory = std::alloc::AllocError;
+
+#[cfg(test)]
+mod tests;
