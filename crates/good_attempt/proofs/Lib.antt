@@ -1,0 +1,3 @@
+mod Columns
+pub mod OneSampling
+pub mod Trying
