@@ -1,0 +1,5 @@
+pub mod Named
+pub mod Quotients
+pub mod Single
+pub mod Shown
+pub mod Told

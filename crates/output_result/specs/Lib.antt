@@ -1,0 +1,5 @@
+pub mod Findings
+pub mod Outputs
+pub mod Printing
+pub mod Results
+pub mod Texts
