@@ -1,0 +1,8 @@
+use Rattle.std.proofs.Common.{◌≡◌, ℕ, arith}
+use Rattle.laurent_node.proofs.tests.zero_and_the_farthest_orders.Goals as goal
+
+not_zero : ◌≡◌ {A = ℕ} 2 0 → ⊥
+not_zero same = omega arith
+
+pub expand-requires-clause-some : goal.expand-requires-clause-some
+expand-requires-clause-some g c zeros = not_zero (zeros 0)
