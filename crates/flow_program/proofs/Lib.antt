@@ -1,3 +1,5 @@
+pub mod Ends
+pub mod FunctionLaws
 pub mod JobLaws
 pub mod JoinLaws
 pub mod LearnedFiles

@@ -1,6 +1,6 @@
 -- Words and bytes have at most one answer.
 use Rattle.std.proofs.Common.{◌≡◌, ℕ, ◌<◌, Bool, true, false, MatchBool, List, [], ◌∷◌, length, Option, Some, None, refl, sym, ◌∙◌, ap, subst, inl, inr, lit<}
-use Rattle.std.specs.Prelude.{nat_lt}
+use Rattle.std.specs.Prelude.{nat_lt, slice_get}
 use Rattle.prime_field.specs.Modulus.{value_of}
 use Rattle.prime_field.specs.declared.Modulus.{Modulus}
 use Rattle.prime_field.specs.declared.Modulus.TheVariants.{First, Second}
@@ -10,36 +10,32 @@ use Rattle.graph_file.specs.declared.job.Need.{Need}
 use Rattle.graph_file.specs.File.{IsFirstBad, IsGoodFile}
 use Rattle.graph_file.specs.Says.{FileForm, Says}
 use Rattle.graph_eval.specs.declared.learned.GraphLearned.{GraphLearned}
-use Rattle.graph_eval.specs.GraphValue.{Meaning, Outcome, GraphValue, main_number}
+use Rattle.graph_eval.specs.GraphValue.{Outcome, GraphValue, main_number}
 use Rattle.graph_eval.specs.Learned.{sets_of}
 use Rattle.learn_phase.specs.LearnedSets.{BreaksLength, LearnedSets, Learns, Lesson, NoPoint}
+use Rattle.parallel_sampler.proofs.Tables.{outcomes_once}
+use Rattle.reconstruction.specs.Form.{IsAsked, functions_of}
+use Rattle.reconstruction.specs.Functions.{Findings, Reconstructs}
+use Rattle.flow_program.specs.Reconstructed.{findings_answer}
 use Rattle.flow_program.specs.declared.task.Task.{Task}
 use Rattle.flow_program.specs.declared.task.Task.TheVariants as task
 use Rattle.flow_program.specs.Answer.{Answer, refusal}
-use Rattle.flow_program.specs.Words.{Request, asked}
+use Rattle.flow_program.specs.Words.{Request, asked, file_of}
 use Rattle.flow_program.specs.Refusals.{file_text, length_text, no_point_text, told_list}
-use Rattle.flow_program.specs.Sampled.{AreOutcomes, SamplesTo, sampled}
+use Rattle.flow_program.specs.Sampled.{SamplesTo, sampled}
 use Rattle.flow_program.specs.Jobs.{IsUnlearned, JobAnswer, LearnedAnswer, LessonAnswer, ShortAnswer, long_answer, most_bytes, success}
-use Rattle.flow_program.specs.Run.{RequestAnswer, RunAnswer, words_answer}
+use Rattle.flow_program.specs.Run.{Files, RequestAnswer, RunAnswer, words_answer}
 use Rattle.flow_program.specs.Tasks.{need_of, task_of}
 use Rattle.flow_program.proofs.WordsLaws.{one_bad_place}
 
 -- the laws of the definitions below that of a run
 pub record Laws : Type 0 where
   pub one_outcome : (m : ℕ) (graphs : List Graph) (learned : List (List (List ℕ))) (number : ℕ) (inputs : List ℕ) (o p : Outcome) → 1 < m → GraphValue m graphs learned number inputs o → GraphValue m graphs learned number inputs p → o ≡ p
-  pub one_lesson : (need : Need) (graphs : List Graph) (points : List (List ℕ)) (a b : Lesson) → LearnedSets need graphs points a → LearnedSets need graphs points b → a ≡ b
+  pub one_lesson : (need : Need) (form : FileForm) (a b : Lesson) → LearnedSets need form a → LearnedSets need form b → a ≡ b
   pub one_told : (need : Need) (bytes : List ℕ) (n k : ℕ) (a b : FileKind) → IsFirstBad need bytes n a → IsFirstBad need bytes k b → (n ≡ k) × (a ≡ b)
   pub told_or_nothing : (need : Need) (bytes : List ℕ) (n : ℕ) (a : FileKind) → IsFirstBad need bytes n a → IsGoodFile need bytes → ⊥
+  pub one_finding : (bytes : List ℕ) (form : FileForm) (learned : List GraphLearned) (a b : Findings) → IsAsked bytes form learned → Reconstructs (functions_of form learned) a → Reconstructs (functions_of form learned) b → a ≡ b
   pub one_form : (need : Need) (bytes : List ℕ) (f g : FileForm) → Says need bytes f → Says need bytes g → f ≡ g
-
-outcomes_once : (meaning : Meaning) → ((point : List ℕ) (o p : Outcome) → meaning point o → meaning point p → o ≡ p) → (points : List (List ℕ)) (os ps : List Outcome) → AreOutcomes meaning points os → AreOutcomes meaning points ps → os ≡ ps
-outcomes_once meaning once [] [] [] first second = refl
-outcomes_once meaning once [] [] (p ∷ ps) first second = absurd second
-outcomes_once meaning once [] (o ∷ os) ps first second = absurd first
-outcomes_once meaning once (point ∷ points) [] ps first second = absurd first
-outcomes_once meaning once (point ∷ points) (o ∷ os) [] first second = absurd second
-outcomes_once meaning once (point ∷ points) (o ∷ os) (p ∷ ps) first second =
-    ap (λ x. x ∷ os) (once point o p first.0 second.0) ∙ ap (λ xs. p ∷ xs) (outcomes_once meaning once points os ps first.1 second.1)
 
 -- both moduli are above 1
 above_one : (m : Modulus) → 1 < value_of m
@@ -59,22 +55,33 @@ module _ (laws : Laws) (what : Task) (form : FileForm) where
       let same : first.graph ≡ second.graph = cc in
       first.told ∙ ap (λ g. refusal 4 (text g)) same ∙ sym second.told
 
-  lesson_answer_once : (lesson : Lesson) (a b : Answer) → ((learned : List GraphLearned) → LearnedAnswer what form learned a → LearnedAnswer what form learned b → a ≡ b) → LessonAnswer what form lesson a → LessonAnswer what form lesson b → a ≡ b
-  lesson_answer_once (Learns learned) a b once first second = once learned first second
-  lesson_answer_once (NoPoint number points) a b once first second = unlearned_once number (λ graph. no_point_text graph points) a b first second
-  lesson_answer_once (BreaksLength number node) a b once first second = unlearned_once number (λ graph. length_text graph (told_list graph.output node)) a b first second
+  lesson_answer_once : (lesson : Lesson) (a b : Answer) → LearnedSets (need_of what) form lesson → ((learned : List GraphLearned) → LearnedSets (need_of what) form (Learns learned) → LearnedAnswer what form learned a → LearnedAnswer what form learned b → a ≡ b)
+      → LessonAnswer what form lesson a → LessonAnswer what form lesson b → a ≡ b
+  lesson_answer_once (Learns learned) a b learns once first second = once learned learns first second
+  lesson_answer_once (NoPoint number points) a b learns once first second = unlearned_once number (λ graph. no_point_text graph points) a b first second
+  lesson_answer_once (BreaksLength number node) a b learns once first second = unlearned_once number (λ graph. length_text graph (told_list graph.output node)) a b first second
 
-  job_by_lesson : (a b : Answer) → ((learned : List GraphLearned) → LearnedAnswer what form learned a → LearnedAnswer what form learned b → a ≡ b) → JobAnswer what form a → JobAnswer what form b → a ≡ b
+  job_by_lesson : (a b : Answer) → ((learned : List GraphLearned) → LearnedSets (need_of what) form (Learns learned) → LearnedAnswer what form learned a → LearnedAnswer what form learned b → a ≡ b) → JobAnswer what form a → JobAnswer what form b → a ≡ b
   job_by_lesson a b once first second =
-      let same = laws.one_lesson (need_of what) form.graphs form.points first.lesson second.lesson first.learns second.learns in
-      lesson_answer_once second.lesson a b once (subst (λ (l : Lesson). LessonAnswer what form l a) same first.right) second.right
+      let same = laws.one_lesson (need_of what) form first.lesson second.lesson first.learns second.learns in
+      lesson_answer_once second.lesson a b second.learns once (subst (λ (l : Lesson). LessonAnswer what form l a) same first.right) second.right
 
-learned_once : (laws : Laws) (what : Task) (form : FileForm) (a b : Answer) (learned : List GraphLearned) → LearnedAnswer what form learned a → LearnedAnswer what form learned b → a ≡ b
-learned_once laws (task.Sample m) form a b learned first second = first.2 ∙ ap success (text_once laws m form.graphs (sets_of learned) form.points first.0 second.0 first.1 second.1) ∙ sym second.2
-learned_once laws task.Learn form a b learned first second = first ∙ sym second
+-- a file that is read for what is to be done with it, and what it says
+record ReadsAs (what : Task) (bytes : List ℕ) (form : FileForm) : Type 0 where
+  good : IsGoodFile (need_of what) bytes
+  says : Says (need_of what) bytes form
 
-job_once : (laws : Laws) (what : Task) (form : FileForm) (a b : Answer) → JobAnswer what form a → JobAnswer what form b → a ≡ b
-job_once laws what form a b first second = job_by_lesson laws what form a b (learned_once laws what form a b) first second
+learned_once : (laws : Laws) (what : Task) (bytes : List ℕ) (form : FileForm) (a b : Answer) (learned : List GraphLearned) → ReadsAs what bytes form → LearnedSets (need_of what) form (Learns learned)
+    → LearnedAnswer what form learned a → LearnedAnswer what form learned b → a ≡ b
+learned_once laws (task.Sample m) bytes form a b learned reads learns first second =
+    first.2 ∙ ap success (text_once laws m form.graphs (sets_of learned) form.points first.0 second.0 first.1 second.1) ∙ sym second.2
+learned_once laws task.Learn bytes form a b learned reads learns first second = first ∙ sym second
+learned_once laws task.Reconstruct bytes form a b learned reads learns first second =
+    let asked : IsAsked bytes form learned = record { good = reads.good; says = reads.says; room = learns.1.0 } in
+    first.2 ∙ ap (findings_answer (slice_get form.graphs (main_number form.graphs))) (laws.one_finding bytes form learned first.0 second.0 asked first.1 second.1) ∙ sym second.2
+
+job_once : (laws : Laws) (what : Task) (bytes : List ℕ) (form : FileForm) (a b : Answer) → ReadsAs what bytes form → JobAnswer what form a → JobAnswer what form b → a ≡ b
+job_once laws what bytes form a b reads first second = job_by_lesson laws what form a b (λ learned learns. learned_once laws what bytes form a b learned reads learns) first second
 
 few_once : (laws : Laws) (what : Task) (bytes : List ℕ) (a b : Answer) → ShortAnswer what bytes a → ShortAnswer what bytes b → a ≡ b
 few_once laws what bytes a b (inl first) (inl second) =
@@ -83,15 +90,15 @@ few_once laws what bytes a b (inl first) (inl second) =
 few_once laws what bytes a b (inl first) (inr second) = absurd (laws.told_or_nothing (need_of what) bytes first.line first.kind first.bad second.good)
 few_once laws what bytes a b (inr first) (inl second) = absurd (laws.told_or_nothing (need_of what) bytes second.line second.kind second.bad first.good)
 few_once laws what bytes a b (inr first) (inr second) =
-    job_once laws what second.form a b (subst (λ (f : FileForm). JobAnswer what f a) (laws.one_form (need_of what) bytes first.form second.form first.says second.says) first.right) second.right
+    job_once laws what bytes second.form a b (record { good = second.good; says = second.says }) (subst (λ (f : FileForm). JobAnswer what f a) (laws.one_form (need_of what) bytes first.form second.form first.says second.says) first.right) second.right
 
 file_once : (laws : Laws) (what : Task) (bytes : List ℕ) (long : Bool) (a b : Answer) → MatchBool long (a ≡ long_answer) (ShortAnswer what bytes a) → MatchBool long (b ≡ long_answer) (ShortAnswer what bytes b) → a ≡ b
 file_once laws what bytes true a b first second = first ∙ sym second
 file_once laws what bytes false a b first second = few_once laws what bytes a b first second
 
-request_once : (laws : Laws) (request : Option Request) (words : List (List ℕ)) (bytes : List ℕ) (a b : Answer) → RequestAnswer request words bytes a → RequestAnswer request words bytes b → a ≡ b
-request_once laws None words bytes a b first second = first.2 ∙ ap words_answer (one_bad_place words first.0 second.0 first.1 second.1) ∙ sym second.2
-request_once laws (Some wish) words bytes a b first second = file_once laws (task_of wish) bytes (nat_lt most_bytes (length bytes)) a b first second
+request_once : (laws : Laws) (request : Option Request) (words : List (List ℕ)) (files : Files) (a b : Answer) → RequestAnswer request words files a → RequestAnswer request words files b → a ≡ b
+request_once laws None words files a b first second = first.2 ∙ ap words_answer (one_bad_place words first.0 second.0 first.1 second.1) ∙ sym second.2
+request_once laws (Some wish) words files a b first second = file_once laws (task_of wish) (files (file_of wish)) (nat_lt most_bytes (length (files (file_of wish)))) a b first second
 
-pub one_run : (laws : Laws) (words : List (List ℕ)) (bytes : List ℕ) (a b : Answer) → RunAnswer words bytes a → RunAnswer words bytes b → a ≡ b
-one_run laws words bytes a b first second = request_once laws (asked words) words bytes a b first second
+pub one_run : (laws : Laws) (words : List (List ℕ)) (files : Files) (a b : Answer) → RunAnswer words files a → RunAnswer words files b → a ≡ b
+one_run laws words files a b first second = request_once laws (asked words) words files a b first second

@@ -11,18 +11,17 @@ use Rattle.graph_file.specs.File.{IsFirstBad, IsGoodFile}
 use Rattle.graph_file.specs.Read.{IsRefusal}
 use Rattle.graph_file.specs.Says.{FileForm, Says}
 use Rattle.flow_program.specs.declared.task.Task.{Task}
-use Rattle.flow_program.specs.Words.{Request, IsBadAt, asked, file_of}
+use Rattle.graph_eval.specs.declared.learned.GraphLearned.{GraphLearned}
+use Rattle.flow_program.specs.Words.{Request, IsBadAt, asked, file_of, names_read}
 use Rattle.flow_program.specs.Answer.{Answer, refusal}
-use Rattle.flow_program.specs.Jobs.{FileAnswer, HasBadLine, IsLearned, IsNoJob, JobAnswer, ShortAnswer, long_answer, most_bytes}
-use Rattle.flow_program.specs.Run.{IsBadFile, ModuliArePrime, Premise, RequestAnswer, RunAnswer, words_answer}
+use Rattle.flow_program.specs.Jobs.{FileAnswer, HasBadLine, IsLearned, IsNoJob, JobAnswer, LearnedAnswer, ShortAnswer, long_answer, most_bytes}
+use Rattle.flow_program.specs.Run.{Files, IsBadFile, ModuliArePrime, Premise, RequestAnswer, RunAnswer, words_answer}
 use Rattle.flow_program.specs.Tasks.{need_of, task_of}
-use Rattle.flow_program.specs.declared.reply.Reply.{Reply}
 use Rattle.flow_program.specs.declared.status.Status.{Status}
-use Rattle.flow_program.specs.declared.status.Status.TheVariants.{Done, BadWords, BadFile, NotLearned, ReadFault, WriteFault, NoMemory}
+use Rattle.flow_program.specs.declared.status.Status.TheVariants.{Done, Unfound, BadWords, BadFile, NotLearned, Exhausted, ReadFault, WriteFault, NoMemory}
 use Rattle.flow_program.specs.Refusals.{file_text}
-use Rattle.flow_program.specs.Reply.{answer_of}
-use Rattle.flow_program.specs.Status.{code_of}
-use Rattle.flow_program.specs.Outside.{IsLearnable, IsRightAnswer, MayStand, MayStandAsked, StandsAnswered}
+use Rattle.flow_program.specs.Status.{IsJobStatus, code_of}
+use Rattle.flow_program.specs.Outside.{AllMayStand, IsLearnable, IsRightAnswer, MayStand, MayStandAsked, StandsAnswered}
 
 -- the answer of bytes that are not too many is that of what they say
 of_few : (what : Task) (bytes : List ℕ) (answer : Answer) → length bytes ≤ most_bytes → ShortAnswer what bytes answer → FileAnswer what bytes answer
@@ -76,38 +75,46 @@ read_file what None opened bytes answer opens whole few right bad = short_file w
 read_file what (Some None) opened bytes answer opens whole few right bad = absurd opens
 read_file what (Some (Some stood)) opened bytes answer opens whole few right bad = short_file what (Some (Some stood)) bytes answer (sym (whole stood opens)) few right bad
 
-named_premise : (words : List (List ℕ)) (wish : Request) (bytes : List ℕ) → asked words ≡ Some wish → Premise words bytes → ModuliArePrime ⊎ IsNoJob (task_of wish) bytes
-named_premise words wish bytes is (inl prime) = inl prime
-named_premise words wish bytes is (inr (inl none)) = let clash : Some wish ≡ None = sym is ∙ none in cc
-named_premise words wish bytes is (inr (inr bad)) = inr (subst (λ (r : Option Request). IsBadFile r bytes) is bad)
+named_premise : (words : List (List ℕ)) (wish : Request) (files : Files) → asked words ≡ Some wish → Premise words files → ModuliArePrime ⊎ IsNoJob (task_of wish) (files (file_of wish))
+named_premise words wish files is (inl prime) = inl prime
+named_premise words wish files is (inr (inl none)) = let clash : Some wish ≡ None = sym is ∙ none in cc
+named_premise words wish files is (inr (inr bad)) = inr (subst (λ (r : Option Request). IsBadFile r files) is bad)
 
 -- what is told of a file that the words name is told of the words
 pub named_right : (words : List (List ℕ)) (shelf : ShelfView) (wish : Request) (answer : Answer) → asked words ≡ Some wish → StandsAnswered (task_of wish) (shelf.files (file_of wish)) answer → IsRightAnswer words shelf answer
-named_right words shelf wish answer is stands = record {
-  bytes = stands.bytes;
-  stood = subst (λ (r : Option Request). MayStandAsked r shelf stands.bytes) (sym is) stands.stood;
-  right = λ premise. subst (λ (r : Option Request). RequestAnswer r words stands.bytes answer) (sym is) (stands.right (named_premise words wish stands.bytes is premise));
-  bad_file = subst (λ (r : Option Request). (answer.status ≡ 3) ↔ IsBadFile r stands.bytes) (sym is) stands.bad_file;
-}
+named_right words shelf wish answer is stands =
+    let files : Files = λ name. stands.bytes in
+    record {
+      files = files;
+      stood = subst (λ (r : Option Request). MayStandAsked r shelf files) (sym is) (stands.stood, tt);
+      right = λ premise. subst (λ (r : Option Request). RequestAnswer r words files answer) (sym is) (stands.right (named_premise words wish files is premise));
+      bad_file = subst (λ (r : Option Request). (answer.status ≡ 3) ↔ IsBadFile r files) (sym is) stands.bad_file;
+    }
 
 -- words that ask for nothing have the answer that tells their place, whatever the shelf has
 pub unnamed_right : (words : List (List ℕ)) (shelf : ShelfView) (k : ℕ) (answer : Answer) → IsBadAt words k → answer ≡ words_answer k → IsRightAnswer words shelf answer
 unnamed_right words shelf k answer bad same =
     let none = bad.refused in
     let two : answer.status ≡ 2 = ap (λ (a : Answer). a.status) same in
+    let files : Files = λ name. [] in
     record {
-      bytes = [];
-      stood = subst (λ (r : Option Request). MayStandAsked r shelf []) (sym none) tt;
-      right = λ premise. subst (λ (r : Option Request). RequestAnswer r words [] answer) (sym none) (k, bad, same);
-      bad_file = (λ three. absurd (omega (arith, two, three)), λ is. absurd (subst (λ (r : Option Request). IsBadFile r []) none is));
+      files = files;
+      stood = subst (λ (r : Option Request). MayStandAsked r shelf files) (sym none) tt;
+      right = λ premise. subst (λ (r : Option Request). RequestAnswer r words files answer) (sym none) (k, bad, same);
+      bad_file = (λ three. absurd (omega (arith, two, three)), λ is. absurd (subst (λ (r : Option Request). IsBadFile r files) none is));
     }
 
 -- a status after learning is not that of a bad file
-not_bad : (status : Status) → (status ≡ Done) ⊎ (status ≡ NotLearned) → code_of status ≡ 3 → ⊥
+not_bad : (status : Status) → IsJobStatus status → code_of status ≡ 3 → ⊥
 not_bad Done ends bad = cc
+not_bad Unfound ends bad = cc
+not_bad BadWords ends bad = absurd ends
+not_bad BadFile ends bad = absurd ends
 not_bad NotLearned ends bad = cc
-not_bad status (inl ends) bad = cc
-not_bad status (inr ends) bad = cc
+not_bad Exhausted ends bad = cc
+not_bad ReadFault ends bad = absurd ends
+not_bad WriteFault ends bad = absurd ends
+not_bad NoMemory ends bad = absurd ends
 
 -- a file with which nothing is wrong, and the law that it has no bad line
 pub record GoodFile (what : Task) (bytes : List ℕ) (form : FileForm) : Type 0 where
@@ -131,7 +138,7 @@ read_well what bytes form answer file right (inl prime) = inr (record { good = f
 read_well what bytes form answer file right (inr bad) = absurd (file.no_fault bad.line bad.kind bad.bad)
 
 -- and its status is not that of a bad file
-pub good_status : (what : Task) (bytes : List ℕ) (form : FileForm) (status : Status) → GoodFile what bytes form → (status ≡ Done) ⊎ (status ≡ NotLearned) → (code_of status ≡ 3) ↔ HasBadLine what bytes
+pub good_status : (what : Task) (bytes : List ℕ) (form : FileForm) (status : Status) → GoodFile what bytes form → IsJobStatus status → (code_of status ≡ 3) ↔ HasBadLine what bytes
 good_status what bytes form status file ends = (λ three. absurd (not_bad status ends three), λ bad. absurd (file.no_fault bad.line bad.kind bad.bad))
 
 -- a file is refused for its first bad line, or for want of memory
@@ -162,21 +169,15 @@ bad_status what need bytes line kind status read other refused is = (λ three. r
 
 -- the law of files that are learned, which is another's to prove
 pub record Law : Type 0 where
-  pub answered : (words : List (List ℕ)) (wish : Request) (bytes : List ℕ) (answer : Answer) → asked words ≡ Some wish → IsLearned (task_of wish) bytes → RunAnswer words bytes answer → answer.status ≡ 0
+  pub answered : (words : List (List ℕ)) (wish : Request) (files : Files) (form : FileForm) (learned : List GraphLearned) (answer : Answer) → asked words ≡ Some wish → IsLearned (task_of wish) (files (file_of wish)) form learned
+      → RunAnswer words files answer → LearnedAnswer (task_of wish) form learned answer
 
-done : (status : Status) → code_of status ≡ 0 → status ≡ Done
-done Done is = refl
-done BadWords is = cc
-done BadFile is = cc
-done NotLearned is = cc
-done ReadFault is = cc
-done WriteFault is = cc
-done NoMemory is = cc
-
--- the right answer of a file that is learned has status 0
-pub learned_well : (law : Law) (words : List (List ℕ)) (shelf : ShelfView) (reply : Reply) → IsRightAnswer words shelf (answer_of reply) → ModuliArePrime → IsLearnable words shelf → reply.status ≡ Done
-learned_well law words shelf reply right prime learnable =
-    let wish = learnable.wish in
-    let stood : MayStand (shelf.files (file_of wish)) right.bytes = subst (λ (r : Option Request). MayStandAsked r shelf right.bytes) learnable.asks right.stood in
-    let same : learnable.bytes ≡ right.bytes = subst (λ (told : Option (Option (List ℕ))). MayStand told right.bytes) learnable.stands stood in
-    done reply.status (law.answered words wish right.bytes (answer_of reply) learnable.asks (subst (IsLearned (task_of wish)) same learnable.learned) (right.right (inl prime)))
+-- the right answer of a file that is learned is that of what was learned
+pub learned_answer : (law : Law) (words : List (List ℕ)) (shelf : ShelfView) (answer : Answer) → IsRightAnswer words shelf answer → ModuliArePrime → (file : IsLearnable words shelf)
+    → LearnedAnswer (task_of file.wish) file.form file.learned answer
+learned_answer law words shelf answer right prime file =
+    let wish = file.wish in
+    let bytes = right.files (file_of wish) in
+    let stood : AllMayStand shelf right.files (names_read wish) = subst (λ (r : Option Request). MayStandAsked r shelf right.files) file.asks right.stood in
+    let same : file.bytes ≡ bytes = subst (λ (told : Option (Option (List ℕ))). MayStand told bytes) file.stands stood.0 in
+    law.answered words wish right.files file.form file.learned answer file.asks (subst (λ bs. IsLearned (task_of wish) bs file.form file.learned) same file.is) (right.right (inl prime))

@@ -8,8 +8,8 @@ use Rattle.std.proofs.Math.Seq.{take-append-add}
 use Rattle.std.proofs.lemmas.List.Elements.{filter-append}
 use Rattle.std.proofs.lemmas.List.Folds.{list_any-append}
 use Rattle.std.proofs.lemmas.List.Sums.{sum_by-append}
-use Rattle.flow_program.specs.Words.{Request, Sample, Learn, Grammar, asked, asked_sample, asked_learn, one_file, is_file, is_second, IsFront, StopsAt, IsBadAt}
-use Rattle.flow_program.specs.Parsed.{Parsed, Asks, BadAt, alone, ended, parsed, parsed_from, parsed_learn}
+use Rattle.flow_program.specs.Words.{Request, Sample, Learn, Reconstruct, Grammar, asked, asked_sample, asked_alone, one_file, is_file, is_second, IsFront, StopsAt, IsBadAt}
+use Rattle.flow_program.specs.Parsed.{Parsed, Asks, BadAt, alone, ended, parsed, parsed_alone, parsed_from}
 
 -- the words that are no option
 abbrev others : List (List ℕ) → List (List ℕ)
@@ -216,30 +216,30 @@ scan (next ∷ rest) before file second k read at =
     file_means None has goes stops = goes has
     file_means (Some first) has goes stops = stops first has
 
--- a word that names no file is learned by nothing
-unlearned : (file : List ℕ) → is_file file ≡ false → (rest : List (List ℕ)) → asked_learn (file ∷ rest) ≡ None
-unlearned file e [] = ap (λ b. option_map (λ f. Learn f) (cond b (Some file) None)) e
-unlearned file e (more ∷ rest) = refl
+-- a word that names no file is asked for by nothing
+unasked : (wish : List ℕ → Request) (file : List ℕ) → is_file file ≡ false → (rest : List (List ℕ)) → asked_alone wish (file ∷ rest) ≡ None
+unasked wish file e [] = ap (λ b. option_map wish (cond b (Some file) None)) e
+unasked wish file e (more ∷ rest) = refl
 
--- a file alone is learned
-learned : (file : List ℕ) → is_file file ≡ true → asked_learn (file ∷ []) ≡ Some (Learn file)
-learned file e = ap (λ b. option_map (λ f. Learn f) (cond b (Some file) None)) e
+-- a file alone is asked for
+asked_file : (wish : List ℕ → Request) (file : List ℕ) → is_file file ≡ true → asked_alone wish (file ∷ []) ≡ Some (wish file)
+asked_file wish file e = ap (λ b. option_map wish (cond b (Some file) None)) e
 
--- words behind a file are learned by nothing
-learn_alone : (file : List ℕ) (rest : List (List ℕ)) → is_file file ≡ true → Means asked_learn (alone 3 (Learn file) rest) (file ∷ rest)
+-- words behind a file are asked for by nothing
+file_means : (wish : List ℕ → Request) (file : List ℕ) (rest : List (List ℕ)) → is_file file ≡ true → Means (asked_alone wish) (alone 3 (wish file) rest) (file ∷ rest)
 unfolding Means
-learn_alone file [] e = learned file e
-learn_alone file (more ∷ rest) e = (2, refl, stops_here asked_learn (file ∷ []) more rest ([], Learn file, learned file e) (λ further wish is. cc))
+file_means wish file [] e = asked_file wish file e
+file_means wish file (more ∷ rest) e = (2, refl, stops_here (asked_alone wish) (file ∷ []) more rest ([], wish file, asked_file wish file e) (λ further other is. cc))
 
--- the words behind `learn`
-learn_means : (rest : List (List ℕ)) → Means asked_learn (parsed_learn rest) rest
+-- the words behind a command that takes a file and nothing else
+alone_means : (wish : List ℕ → Request) (rest : List (List ℕ)) → Means (asked_alone wish) (parsed_alone wish rest) rest
 unfolding Means
-learn_means [] = (1, refl, stops_end asked_learn [] (codes "f" ∷ [], Learn (codes "f"), refl) (λ wish is. cc))
-learn_means (file ∷ rest) =
+alone_means wish [] = (1, refl, stops_end (asked_alone wish) [] (codes "f" ∷ [], wish (codes "f"), refl) (λ other is. cc))
+alone_means wish (file ∷ rest) =
     elim (cases_Bool (is_file file)) [
-      | inl e ↦ subst (λ b. Means asked_learn (cond b (alone 3 (Learn file) rest) (BadAt 2)) (file ∷ rest)) (sym e) (learn_alone file rest e)
-      | inr e ↦ subst (λ b. Means asked_learn (cond b (alone 3 (Learn file) rest) (BadAt 2)) (file ∷ rest)) (sym e)
-          (1, refl, stops_here asked_learn [] file rest (codes "f" ∷ [], Learn (codes "f"), refl) (λ more wish is. let none : asked_learn (file ∷ more) ≡ None = unlearned file e more in cc))
+      | inl e ↦ subst (λ b. Means (asked_alone wish) (cond b (alone 3 (wish file) rest) (BadAt 2)) (file ∷ rest)) (sym e) (file_means wish file rest e)
+      | inr e ↦ subst (λ b. Means (asked_alone wish) (cond b (alone 3 (wish file) rest) (BadAt 2)) (file ∷ rest)) (sym e)
+          (1, refl, stops_here (asked_alone wish) [] file rest (codes "f" ∷ [], wish (codes "f"), refl) (λ more other is. let none : asked_alone wish (file ∷ more) ≡ None = unasked wish file e more in cc))
     ]
 
 -- no words ask for nothing yet, and may go on
@@ -275,25 +275,25 @@ named_means grammar name rest (BadAt place) same means = subst (λ (p : ℕ). Is
 unnamed_means : (name : List ℕ) (rest : List (List ℕ)) → ((words : List (List ℕ)) → asked (name ∷ words) ≡ None) → IsBadAt (name ∷ rest) 1
 unnamed_means name rest none = stops_here asked [] name rest no_words (λ more wish is. let nothing : asked (name ∷ more) ≡ None = none more in cc)
 
+-- the words behind this name are those of one command, or else are asked for by others
+one_command : (name : List ℕ) (rest : List (List ℕ)) (b : Bool) (grammar others : Grammar) (found other : Parsed) → ((words : List (List ℕ)) → asked (name ∷ words) ≡ cond b (grammar words) (others words)) → Means grammar found rest
+    → (((words : List (List ℕ)) → asked (name ∷ words) ≡ others words) → RightlyRead other (name ∷ rest)) → RightlyRead (cond b found other) (name ∷ rest)
+one_command name rest true grammar others found other same means next = named_means grammar name rest found same means
+one_command name rest false grammar others found other same means next = next same
+
 -- what reading all words says of them
 read_means : (words : List (List ℕ)) → RightlyRead (parsed words) words
 unfolding RightlyRead
 read_means [] = stops_end asked [] no_words (λ wish is. cc)
-read_means (word ∷ rest) =
-    elim (cases_Bool (bytes_eq word (codes "sample"))) [
-      | inl e ↦ subst (λ b. RightlyRead (cond b (parsed_from 2 None false rest) (cond (bytes_eq word (codes "learn")) (parsed_learn rest) (BadAt 1))) (word ∷ rest)) (sym e)
-          (named_means asked_sample word rest (parsed_from 2 None false rest) (λ words. ap (λ b. cond b (asked_sample words) (cond (bytes_eq word (codes "learn")) (asked_learn words) None)) e) (scan rest [] None false 2 read_none refl))
-      | inr e ↦ subst (λ b. RightlyRead (cond b (parsed_from 2 None false rest) (cond (bytes_eq word (codes "learn")) (parsed_learn rest) (BadAt 1))) (word ∷ rest)) (sym e)
-          (elim (cases_Bool (bytes_eq word (codes "learn"))) [
-            | inl f ↦ subst (λ b. RightlyRead (cond b (parsed_learn rest) (BadAt 1)) (word ∷ rest)) (sym f)
-                (named_means asked_learn word rest (parsed_learn rest) (λ words. other e words ∙ ap (λ b. cond b (asked_learn words) None) f) (learn_means rest))
-            | inr f ↦ subst (λ b. RightlyRead (cond b (parsed_learn rest) (BadAt 1)) (word ∷ rest)) (sym f)
-                (unnamed_means word rest (λ words. other e words ∙ ap (λ b. cond b (asked_learn words) None) f))
-          ])
-    ]
-  where
-    other : bytes_eq word (codes "sample") ≡ false → (words : List (List ℕ)) → asked (word ∷ words) ≡ cond (bytes_eq word (codes "learn")) (asked_learn words) None
-    other e words = ap (λ b. cond b (asked_sample words) (cond (bytes_eq word (codes "learn")) (asked_learn words) None)) e
+read_means (name ∷ rest) =
+    let last : Grammar = λ words. cond (bytes_eq name (codes "reconstruct")) (asked_alone Reconstruct words) None in
+    let later : Grammar = λ words. cond (bytes_eq name (codes "learn")) (asked_alone Learn words) (last words) in
+    let last_found = cond (bytes_eq name (codes "reconstruct")) (parsed_alone Reconstruct rest) (BadAt 1) in
+    let later_found = cond (bytes_eq name (codes "learn")) (parsed_alone Learn rest) last_found in
+    one_command name rest (bytes_eq name (codes "sample")) asked_sample later (parsed_from 2 None false rest) later_found (λ words. refl) (scan rest [] None false 2 read_none refl)
+    (λ same. one_command name rest (bytes_eq name (codes "learn")) (asked_alone Learn) last (parsed_alone Learn rest) last_found same (alone_means Learn rest)
+    (λ same. one_command name rest (bytes_eq name (codes "reconstruct")) (asked_alone Reconstruct) (λ words. None) (parsed_alone Reconstruct rest) (BadAt 1) same (alone_means Reconstruct rest)
+    (λ none. unnamed_means name rest none)))
 
 pub parsed_bad : (words : List (List ℕ)) (k : ℕ) → parsed words ≡ BadAt k → IsBadAt words k
 unfolding RightlyRead

@@ -6,12 +6,16 @@ use Rattle.graph_file.specs.declared.graph.Graph.{Graph}
 use Rattle.graph_file.specs.File.{IsFirstBad, IsGoodFile}
 use Rattle.graph_file.specs.Says.{FileForm, Says}
 use Rattle.graph_eval.specs.declared.learned.GraphLearned.{GraphLearned}
+use Rattle.graph_eval.specs.GraphValue.{main_number}
 use Rattle.graph_eval.specs.Learned.{sets_of}
 use Rattle.learn_phase.specs.LearnedSets.{BreaksLength, LearnedSets, Learns, Lesson, NoPoint}
+use Rattle.reconstruction.specs.Form.{functions_of}
+use Rattle.reconstruction.specs.Functions.{Findings, Reconstructs}
 use Rattle.flow_program.specs.declared.task.Task.{Task}
 use Rattle.flow_program.specs.declared.task.Task.TheVariants as task
 use Rattle.flow_program.specs.Answer.{Answer, refusal}
 use Rattle.flow_program.specs.Lessons.{lessons}
+use Rattle.flow_program.specs.Reconstructed.{findings_answer}
 use Rattle.flow_program.specs.Refusals.{file_text, length_text, no_point_text, told_list}
 use Rattle.flow_program.specs.Sampled.{SamplesTo}
 use Rattle.flow_program.specs.Tasks.{need_of}
@@ -20,10 +24,12 @@ use Rattle.flow_program.specs.Tasks.{need_of}
 abbrev pub success : List ℕ → Answer
 success text = record { status = 0; out = text; err = [] }
 
--- what is answered of graphs that are all learned: the lines of the points, or what was learned
+-- what is answered of graphs that are all learned: the lines of the points, what was learned, or what is found of the outputs
+-- as functions
 abbrev pub LearnedAnswer : Task → FileForm → List GraphLearned → Answer → Type 0
 LearnedAnswer (task.Sample modulus) form learned answer = (text : List ℕ) × SamplesTo (value_of modulus) form.graphs (sets_of learned) form.points text × (answer ≡ success text)
 LearnedAnswer task.Learn form learned answer = answer ≡ success (lessons form.graphs learned)
+LearnedAnswer task.Reconstruct form learned answer = (findings : Findings) × Reconstructs (functions_of form learned) findings × (answer ≡ findings_answer (slice_get form.graphs (main_number form.graphs)) findings)
 
 -- status 4 with a text on the graph that has this number
 pub record IsUnlearned (graphs : List Graph) (number : ℕ) (text : Graph → List ℕ) (answer : Answer) : Type 0 where
@@ -40,7 +46,7 @@ LessonAnswer what form (BreaksLength number node) answer = IsUnlearned form.grap
 -- the answer of what a file says
 pub record JobAnswer (what : Task) (form : FileForm) (answer : Answer) : Type 0 where
   pub lesson : Lesson
-  pub learns : LearnedSets (need_of what) form.graphs form.points lesson
+  pub learns : LearnedSets (need_of what) form lesson
   pub right : LessonAnswer what form lesson answer
 
 -- a line of the file is bad for what is to be done with it
@@ -82,11 +88,9 @@ ShortAnswer what bytes answer = IsRefused what bytes answer ⊎ IsRead what byte
 abbrev pub FileAnswer : Task → List ℕ → Answer → Type 0
 FileAnswer what bytes answer = MatchBool (nat_lt most_bytes (length bytes)) (answer ≡ long_answer) (ShortAnswer what bytes answer)
 
--- the file is read and its graphs are learned
-pub record IsLearned (what : Task) (bytes : List ℕ) : Type 0 where
+-- the file is read, says this, and this is learned of all its graphs
+pub record IsLearned (what : Task) (bytes : List ℕ) (form : FileForm) (learned : List GraphLearned) : Type 0 where
   pub fits : length bytes ≤ most_bytes
   pub good : IsGoodFile (need_of what) bytes
-  pub form : FileForm
   pub says : Says (need_of what) bytes form
-  pub learned : List GraphLearned
-  pub learns : LearnedSets (need_of what) form.graphs form.points (Learns learned)
+  pub learns : LearnedSets (need_of what) form (Learns learned)

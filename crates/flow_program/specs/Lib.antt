@@ -3,6 +3,7 @@ pub mod Jobs
 pub mod Lessons
 pub mod Outside
 pub mod Parsed
+pub mod Reconstructed
 pub mod Refusals
 pub mod Reply
 pub mod Run

@@ -1,13 +1,17 @@
 -- What a run does to the shelf and the sinks that it is lent.
-use Rattle.std.specs.Prelude.{◌≡◌, ℕ, List, [], Option, Some, None, ⊤, ◌⊎◌, ◌↔◌, codes}
+use Rattle.std.specs.Prelude.{◌≡◌, ℕ, List, [], ◌∷◌, ◌++◌, Option, Some, None, ⊤, ◌⊎◌, ◌↔◌, codes}
 use Rattle.flow_base.specs.Counts.{Rose}
 use Rattle.flow_base.specs.Shelf.{ShelfView}
 use Rattle.flow_base.specs.Sink.{SinkView, Adds, AddsFront}
-use Rattle.flow_program.specs.Words.{Request, asked, file_of}
+use Rattle.graph_file.specs.Says.{FileForm}
+use Rattle.graph_eval.specs.declared.learned.GraphLearned.{GraphLearned}
+use Rattle.reconstruction.specs.Form.{functions_of}
+use Rattle.reconstruction.specs.Functions.{Functions}
+use Rattle.flow_program.specs.Words.{Request, Sample, Learn, Reconstruct, asked, file_of, names_read}
 use Rattle.flow_program.specs.Tasks.{task_of}
 use Rattle.flow_program.specs.Answer.{Answer}
 use Rattle.flow_program.specs.Jobs.{FileAnswer, IsLearned, IsNoJob}
-use Rattle.flow_program.specs.Run.{IsBadFile, ModuliArePrime, Premise, RunAnswer}
+use Rattle.flow_program.specs.Run.{Files, IsBadFile, ModuliArePrime, Premise, RunAnswer}
 use Rattle.flow_program.specs.declared.task.Task.{Task}
 
 -- the shelf and the two sinks at one moment
@@ -33,18 +37,23 @@ pub record StandsAnswered (what : Task) (told : Option (Option (List ℕ))) (ans
   pub right : ModuliArePrime ⊎ IsNoJob what bytes → FileAnswer what bytes answer
   pub bad_file : (answer.status ≡ 3) ↔ IsNoJob what bytes
 
--- bytes that may stand under the file that is asked for
-abbrev pub MayStandAsked : Option Request → ShelfView → List ℕ → Type 0
-MayStandAsked None shelf bytes = ⊤
-MayStandAsked (Some wish) shelf bytes = MayStand (shelf.files (file_of wish)) bytes
+-- under each of the names its bytes may stand
+abbrev pub AllMayStand : ShelfView → Files → List (List ℕ) → Type 0
+AllMayStand shelf files [] = ⊤
+AllMayStand shelf files (name ∷ names) = MayStand (shelf.files name) (files name) × AllMayStand shelf files names
 
--- This is, under their premise, the answer of the words and of the bytes that stood under the file that they name. Its status
--- is 3 exactly where these bytes are no job, whatever the moduli are.
+-- under each name that what is asked for reads its bytes may stand
+abbrev pub MayStandAsked : Option Request → ShelfView → Files → Type 0
+MayStandAsked None shelf files = ⊤
+MayStandAsked (Some wish) shelf files = AllMayStand shelf files (names_read wish)
+
+-- This is, under their premise, the answer of the words and of the bytes that stood under the names that they have read. Its
+-- status is 3 exactly where these bytes are no job, whatever the moduli are.
 pub record IsRightAnswer (words : List (List ℕ)) (shelf : ShelfView) (answer : Answer) : Type 0 where
-  pub bytes : List ℕ
-  pub stood : MayStandAsked (asked words) shelf bytes
-  pub right : Premise words bytes → RunAnswer words bytes answer
-  pub bad_file : (answer.status ≡ 3) ↔ IsBadFile (asked words) bytes
+  pub files : Files
+  pub stood : MayStandAsked (asked words) shelf files
+  pub right : Premise words files → RunAnswer words files answer
+  pub bad_file : (answer.status ≡ 3) ↔ IsBadFile (asked words) files
 
 -- the file that is asked for is there, and all its graphs are learned
 pub record IsLearnable (words : List (List ℕ)) (shelf : ShelfView) : Type 0 where
@@ -52,7 +61,30 @@ pub record IsLearnable (words : List (List ℕ)) (shelf : ShelfView) : Type 0 wh
   pub asks : asked words ≡ Some wish
   pub bytes : List ℕ
   pub stands : shelf.files (file_of wish) ≡ Some (Some bytes)
-  pub learned : IsLearned (task_of wish) bytes
+  pub form : FileForm
+  pub learned : List GraphLearned
+  pub is : IsLearned (task_of wish) bytes form learned
+
+-- what a file that is there asks of its outputs as functions
+abbrev pub functions_in : (words : List (List ℕ)) (shelf : ShelfView) → IsLearnable words shelf → Functions
+functions_in words shelf file = functions_of file.form file.learned
+
+-- functions are asked for, or else they are not
+abbrev pub AsksFunctions : Request → Type 0
+AsksFunctions (Sample file second) = ⊥
+AsksFunctions (Learn file) = ⊥
+AsksFunctions (Reconstruct file) = ⊤
+
+abbrev pub AsksNoFunctions : Request → Type 0
+AsksNoFunctions (Sample file second) = ⊤
+AsksNoFunctions (Learn file) = ⊤
+AsksNoFunctions (Reconstruct file) = ⊥
+
+-- the sink tells what it holds, and this text stands behind what it held before
+pub record Wrote (old new : SinkView) (text : List ℕ) : Type 0 where
+  pub before : List ℕ
+  pub was : old.held ≡ Some before
+  pub is : new.held ≡ Some (before ++ text)
 
 -- the run told its answer: the status, and all of out and err
 pub record Tells (words : List (List ℕ)) (status : ℕ) (old new : Outside) : Type 0 where

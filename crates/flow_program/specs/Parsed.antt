@@ -1,6 +1,8 @@
 -- The words read one after another, as the program reads them; proofs/WordsLaws says what this means.
-use Rattle.std.specs.Prelude.{◌≡◌, ℕ, ◌+◌, ◌&&◌, Bool, true, false, Option, Some, None, is_none, Result, Ok, Err, List, [], ◌∷◌, codes, bytes_eq, if◌then◌else◌}
-use Rattle.flow_program.specs.Words.{Request, Sample, Learn, is_file, is_second, request}
+use Rattle.std.specs.Prelude.{◌≡◌, ℕ, ◌+◌, ◌&&◌, Bool, true, false, Option, Some, None, is_none, Result, Ok, Err, List, [], ◌∷◌, codes, bytes_eq, if◌then◌else◌, string_bytes}
+use Rattle.std.specs.declared.string.String.{String}
+use Rattle.std.specs.declared.alloc.Global.{Global}
+use Rattle.flow_program.specs.Words.{Request, Sample, Learn, Reconstruct, is_file, is_second, request}
 use Rattle.flow_program.specs.declared.words.Command.{Command}
 use Rattle.flow_program.specs.declared.words.WordsError.{WordsError}
 use Rattle.flow_program.specs.declared.words.WordsError.TheVariants as error
@@ -28,14 +30,27 @@ abbrev pub alone : ℕ → Request → List (List ℕ) → Parsed
 alone k wish [] = Asks wish
 alone k wish (word ∷ rest) = BadAt k
 
--- the words behind `learn`
-abbrev pub parsed_learn : List (List ℕ) → Parsed
-parsed_learn [] = BadAt 2
-parsed_learn (file ∷ rest) = if is_file file then alone 3 (Learn file) rest else BadAt 2
+-- the words behind a command that takes a file and nothing else
+abbrev pub parsed_alone : (List ℕ → Request) → List (List ℕ) → Parsed
+parsed_alone wish [] = BadAt 2
+parsed_alone wish (file ∷ rest) = if is_file file then alone 3 (wish file) rest else BadAt 2
+
+-- the words behind a command's name
+abbrev pub parsed_behind : List ℕ → List (List ℕ) → Parsed
+parsed_behind name rest =
+    if bytes_eq name (codes "sample") then parsed_from 2 None false rest else
+    if bytes_eq name (codes "learn") then parsed_alone Learn rest else
+    if bytes_eq name (codes "reconstruct") then parsed_alone Reconstruct rest else BadAt 1
 
 abbrev pub parsed : List (List ℕ) → Parsed
 parsed [] = BadAt 1
-parsed (word ∷ rest) = if bytes_eq word (codes "sample") then parsed_from 2 None false rest else if bytes_eq word (codes "learn") then parsed_learn rest else BadAt 1
+parsed (word ∷ rest) = parsed_behind word rest
+
+-- the file that was read where this is asked of a file, want of memory apart
+abbrev pub Finds : (List ℕ → Request) → Result (String Global) WordsError → Parsed → Type 0
+Finds wish (Ok file) found = found ≡ Asks (wish (string_bytes file))
+Finds wish (Err (error.Bad k)) found = found ≡ BadAt k
+Finds wish (Err error.NoMemory) found = Unit {0}
 
 -- what reading words gave, want of memory apart
 abbrev pub Reads : Result Command WordsError → Parsed → Type 0

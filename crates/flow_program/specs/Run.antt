@@ -1,10 +1,10 @@
--- What a run answers: a relation of the words, the bytes under the file that they name, and the answer.
+-- What a run answers: a relation of the words, the bytes under the names that they have it read, and the answer.
 use Rattle.std.specs.Prelude.{◌≡◌, ℕ, List, ◌++◌, Option, Some, None, ◌⊎◌, codes}
 use Rattle.std.specs.Fmt.{decimal}
 use Rattle.prime_field.specs.Modulus.{value_of}
 use Rattle.prime_field.specs.Residue.{IsPrime}
 use Rattle.prime_field.specs.declared.Modulus.TheVariants.{First, Second}
-use Rattle.flow_program.specs.Words.{Request, asked, IsBadAt}
+use Rattle.flow_program.specs.Words.{Request, asked, file_of, IsBadAt}
 use Rattle.flow_program.specs.Answer.{Answer, refusal}
 use Rattle.flow_program.specs.Jobs.{FileAnswer, IsNoJob}
 use Rattle.flow_program.specs.Tasks.{task_of}
@@ -14,24 +14,28 @@ pub record ModuliArePrime : Type 0 where
   pub first : IsPrime (value_of First)
   pub second : IsPrime (value_of Second)
 
--- a file is asked for, and its bytes are no job for that
-abbrev pub IsBadFile : Option Request → List ℕ → Type 0
-IsBadFile None bytes = ⊥
-IsBadFile (Some wish) bytes = IsNoJob (task_of wish) bytes
+-- the bytes under each name
+abbrev pub Files : Type 0
+Files = List ℕ → List ℕ
 
--- What is supposed of these words and bytes where an answer is said to be right: that both moduli are prime; or nothing, where
+-- a file is asked for, and its bytes are no job for that
+abbrev pub IsBadFile : Option Request → Files → Type 0
+IsBadFile None files = ⊥
+IsBadFile (Some wish) files = IsNoJob (task_of wish) (files (file_of wish))
+
+-- What is supposed of these words and files where an answer is said to be right: that both moduli are prime; or nothing, where
 -- the words ask for nothing or the bytes are no job.
-abbrev pub Premise : List (List ℕ) → List ℕ → Type 0
-Premise words bytes = ModuliArePrime ⊎ ((asked words ≡ None) ⊎ IsBadFile (asked words) bytes)
+abbrev pub Premise : List (List ℕ) → Files → Type 0
+Premise words files = ModuliArePrime ⊎ ((asked words ≡ None) ⊎ IsBadFile (asked words) files)
 
 -- the answer to words that go wrong at the k-th
 abbrev pub words_answer : ℕ → Answer
 words_answer k = refusal 2 (codes "flow: bad words at " ++ decimal k ++ codes "\n")
 
--- the answer of what is asked for, on these words and bytes
-abbrev pub RequestAnswer : Option Request → List (List ℕ) → List ℕ → Answer → Type 0
-RequestAnswer None words bytes answer = (k : ℕ) × IsBadAt words k × (answer ≡ words_answer k)
-RequestAnswer (Some wish) words bytes answer = FileAnswer (task_of wish) bytes answer
+-- the answer of what is asked for, on these words and files
+abbrev pub RequestAnswer : Option Request → List (List ℕ) → Files → Answer → Type 0
+RequestAnswer None words files answer = (k : ℕ) × IsBadAt words k × (answer ≡ words_answer k)
+RequestAnswer (Some wish) words files answer = FileAnswer (task_of wish) (files (file_of wish)) answer
 
-abbrev pub RunAnswer : List (List ℕ) → List ℕ → Answer → Type 0
-RunAnswer words bytes answer = RequestAnswer (asked words) words bytes answer
+abbrev pub RunAnswer : List (List ℕ) → Files → Answer → Type 0
+RunAnswer words files answer = RequestAnswer (asked words) words files answer

@@ -1,5 +1,9 @@
 -- What a run does: how it may end, and what then stands on out and err.
 use Rattle.std.specs.Prelude.{◌≡◌, ℕ, ◌≤◌, List, Some, None, ◌⊎◌, ◌↔◌, codes}
+use Rattle.prime_field.specs.declared.Modulus.{Modulus}
+use Rattle.good_attempt.specs.Attempts.{Taken}
+use Rattle.reconstruction.specs.Functions.{AllReduceWell, AreTaken}
+use Rattle.reconstruction.specs.Headline.{PrintedTaken, PrintedUnique, QuotientPrinted}
 use Rattle.flow_program.specs.declared.status.Status.{Status}
 use Rattle.flow_program.specs.declared.status.Status.TheVariants as status
 use Rattle.flow_program.specs.declared.words.WordsError.{WordsError}
@@ -7,7 +11,7 @@ use Rattle.flow_program.specs.declared.words.WordsError.TheVariants as error
 use Rattle.flow_program.specs.Status.{code_of}
 use Rattle.flow_program.specs.Words.{Request, asked, file_of}
 use Rattle.flow_program.specs.Run.{ModuliArePrime, words_answer}
-use Rattle.flow_program.specs.Outside.{Outside, BreaksOff, FileRose, IsLearnable, NoDeviceFailed, SinkRose, Tells, TellsOnly}
+use Rattle.flow_program.specs.Outside.{AsksFunctions, AsksNoFunctions, Outside, BreaksOff, FileRose, IsLearnable, NoDeviceFailed, SinkRose, Tells, TellsOnly, Wrote, functions_in}
 
 -- on these words a run may lead from one state of the devices to another, and end so
 pub record Runs (words : List (List ℕ)) (before after : Outside) (end : Status) : Type 0 where
@@ -16,9 +20,29 @@ pub record Runs (words : List (List ℕ)) (before after : Outside) (end : Status
   pub answers : code_of end ≤ 5 → Tells words (code_of end) before after
   -- Where no device failed, only memory may have been wanting.
   pub completes : NoDeviceFailed words before after → (code_of end ≤ 5) ⊎ (end ≡ status.NoMemory)
-  -- Where both moduli are prime, the file that is asked for is a job whose graphs are all learned, and no device failed, all
-  -- is well, or only memory was wanting.
-  pub learned : ModuliArePrime → IsLearnable words before.shelf → NoDeviceFailed words before after → (end ≡ status.Done) ⊎ (end ≡ status.NoMemory)
+  -- Where both moduli are prime, the file that is asked for is a job whose graphs are all learned, and no device failed, a
+  -- file that is sampled or learned ends well, or only memory was wanting.
+  pub learned : ModuliArePrime → (file : IsLearnable words before.shelf) → AsksNoFunctions file.wish → NoDeviceFailed words before after →
+      (end ≡ status.Done) ⊎ (end ≡ status.NoMemory)
+  -- One whose outputs are reconstructed, and that has a good attempt at both moduli, ends with its results, or only memory was
+  -- wanting.
+  pub attempted : ModuliArePrime → (file : IsLearnable words before.shelf) → AsksFunctions file.wish → NoDeviceFailed words before after →
+      (taken : Modulus → Taken) → AreTaken (functions_in words before.shelf file) taken →
+      (end ≡ status.Done) ⊎ ((end ≡ status.Unfound) ⊎ (end ≡ status.NoMemory))
+  -- It ends well where each output is a quotient within its bounds that reduces well.
+  pub found : ModuliArePrime → (file : IsLearnable words before.shelf) → AsksFunctions file.wish → NoDeviceFailed words before after →
+      (taken : Modulus → Taken) → AreTaken (functions_in words before.shelf file) taken → AllReduceWell (functions_in words before.shelf file) taken →
+      (end ≡ status.Done) ⊎ (end ≡ status.NoMemory)
+  -- Where both moduli are prime, functions are asked for and the run tells results: an output that is a quotient within the
+  -- bounds and reduces well is printed as that quotient.
+  pub quotients : ModuliArePrime → (file : IsLearnable words before.shelf) → AsksFunctions file.wish → code_of end ≤ 1 →
+      (text : List ℕ) → Wrote before.out after.out text → QuotientPrinted (functions_in words before.shelf file) text
+  -- And every pair within the bounds that has the samples of a printed function equals it modulo each.
+  pub unique : ModuliArePrime → (file : IsLearnable words before.shelf) → AsksFunctions file.wish → code_of end ≤ 1 →
+      (text : List ℕ) → Wrote before.out after.out text → PrintedUnique (functions_in words before.shelf file) text
+  -- A printed function has samples: both moduli have a good attempt.
+  pub taken : ModuliArePrime → (file : IsLearnable words before.shelf) → AsksFunctions file.wish → code_of end ≤ 1 →
+      (text : List ℕ) → Wrote before.out after.out text → PrintedTaken (functions_in words before.shelf file) text
   -- Where nothing stands under the file that is asked for, there is no answer.
   pub missing : (wish : Request) → asked words ≡ Some wish → before.shelf.files (file_of wish) ≡ Some None → 6 ≤ code_of end
   -- Up to 5, status 2 comes exactly with words that ask for nothing.

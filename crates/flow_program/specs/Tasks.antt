@@ -6,7 +6,7 @@ use Rattle.graph_file.specs.declared.job.Need.{Need}
 use Rattle.graph_file.specs.declared.job.Need.TheVariants as need
 use Rattle.flow_program.specs.declared.task.Task.{Task}
 use Rattle.flow_program.specs.declared.task.Task.TheVariants as task
-use Rattle.flow_program.specs.Words.{Request, Sample, Learn}
+use Rattle.flow_program.specs.Words.{Request, Sample, Learn, Reconstruct}
 
 -- the modulus that is asked for
 abbrev pub modulus_of : Bool → Modulus
@@ -16,8 +16,10 @@ modulus_of second = if second then Second else First
 abbrev pub task_of : Request → Task
 task_of (Sample file second) = task.Sample (modulus_of second)
 task_of (Learn file) = task.Learn
+task_of (Reconstruct file) = task.Reconstruct
 
 -- what a file is read for
 abbrev pub need_of : Task → Need
 need_of (task.Sample modulus) = need.Points
 need_of task.Learn = need.Learning
+need_of task.Reconstruct = need.Functions

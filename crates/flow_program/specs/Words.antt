@@ -11,20 +11,27 @@ abbrev pub texts : List (String Global) → List (List ℕ)
 texts words = map string_bytes words
 
 -- what the program can be asked to do, with names as their bytes: to sample a file, with true at the second modulus; to
--- learn one
+-- learn one; to reconstruct the functions that one computes
 pub data Request : Type 0 where
   Sample : (file : List ℕ) (second : Bool) → Request
   Learn : (file : List ℕ) → Request
+  Reconstruct : (file : List ℕ) → Request
 
 -- what a command asks for
 abbrev pub request : Command → Request
 request (command.Sample file second) = Sample (string_bytes file) second
 request (command.Learn file) = Learn (string_bytes file)
+request (command.Reconstruct file) = Reconstruct (string_bytes file)
 
 -- the file that a request names
 abbrev pub file_of : Request → List ℕ
 file_of (Sample file second) = file
 file_of (Learn file) = file
+file_of (Reconstruct file) = file
+
+-- the names whose bytes a request reads
+abbrev pub names_read : Request → List (List ℕ)
+names_read wish = file_of wish ∷ []
 
 -- which words ask for what
 abbrev pub Grammar : Type 0
@@ -53,13 +60,16 @@ one_file (file ∷ more ∷ rest) = None
 abbrev pub asked_sample : Grammar
 asked_sample rest = if nat_le (count_by is_second rest) 1 then option_map (λ file. Sample file (list_any is_second rest)) (one_file (filter (λ word. not (is_second word)) rest)) else None
 
--- what the words behind `learn` ask for: a file and nothing else
-abbrev pub asked_learn : Grammar
-asked_learn rest = option_map Learn (one_file rest)
+-- what the words behind a command ask for that takes a file and nothing else, where this is asked of the file
+abbrev pub asked_alone : (List ℕ → Request) → Grammar
+asked_alone wish rest = option_map wish (one_file rest)
 
 -- what the words behind this first word ask for
 abbrev pub asked_behind : List ℕ → Grammar
-asked_behind name rest = if bytes_eq name (codes "sample") then asked_sample rest else if bytes_eq name (codes "learn") then asked_learn rest else None
+asked_behind name rest =
+    if bytes_eq name (codes "sample") then asked_sample rest else
+    if bytes_eq name (codes "learn") then asked_alone Learn rest else
+    if bytes_eq name (codes "reconstruct") then asked_alone Reconstruct rest else None
 
 -- what the words ask for, where the grammar admits them
 abbrev pub asked : Grammar

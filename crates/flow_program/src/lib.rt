@@ -2,6 +2,7 @@
 #![tactic(auto)]
 
 mod arguments;
+mod functions;
 mod laws;
 mod lessons;
 mod printed;

@@ -1,18 +1,18 @@
 //! What a run is to tell, worked out before anything is written.
 
-ghost use Rattle.std.specs.Prelude.{◌≡◌, ◌≢◌, ◌≤◌, ◌⊎◌, ◌↔◌, IfOk, OnOk, Err, length};
+ghost use Rattle.std.specs.Prelude.{◌≡◌, ◌≢◌, ◌≤◌, ◌⊎◌, ◌↔◌, IfOk, OnOk, Ok, Err, length};
 ghost use Rattle.graph_file.specs.Says.{form};
-ghost use Rattle.graph_eval.specs.Learned.{Fits};
 ghost use Rattle.learn_phase.specs.Answers.{FitsJob};
 ghost use Rattle.flow_program.specs.Answer.{refusal};
 ghost use Rattle.flow_program.specs.Jobs.{HasBadLine, JobAnswer, LearnedAnswer, ShortAnswer, long_answer, success};
 ghost use Rattle.flow_program.specs.Refusals.{file_text, length_text, no_point_text};
 ghost use Rattle.flow_program.specs.Reply.{TellsWhy, answer_of};
 ghost use Rattle.flow_program.specs.Run.{ModuliArePrime, words_answer};
-ghost use Rattle.flow_program.specs.Status.{IsFileStatus, code_of};
+ghost use Rattle.flow_program.specs.Status.{IsFileStatus, IsJobStatus, code_of};
 ghost use Rattle.flow_program.specs.Tasks as spec;
 
 use crate::FILE_LIMIT;
+use crate::functions::reply_to_functions;
 use crate::lessons::lessons;
 use crate::refusals::{push_file_text, push_length_text, push_no_point_text, told_list};
 use crate::sampling::sample;
@@ -32,7 +32,7 @@ pub(crate) struct Reply {
 }
 
 /// Nothing on out, and this text on err.
-fn refusal_of(alloc: Global, status: Status, err: Vec<u8>) -> Reply
+pub(crate) fn refusal_of(alloc: Global, status: Status, err: Vec<u8>) -> Reply
     ensures answer { answer_of result ≡ refusal (code_of status) err.items }
     ensures status { result.status ≡ status }
 {
@@ -104,7 +104,7 @@ fn reply_to_no_point(alloc: Global, graph: &Graph, first: &[Singular]) -> Result
 
 /// The reply where a job's graphs can't be learned, or want of memory where it is that.
 fn reply_to_unlearned(alloc: Global, job: &Job, why: &LearnError) -> Result<Reply, AllocError>
-    requires { FitsJob job.now.need job.now.graphs job.now.points (Err why.now) }
+    requires { FitsJob job.now.need (form job.now) (Err why.now) }
     ensures answer { IfOk result (λ reply. TellsWhy job.now.graphs why.now (answer_of reply)) }
     ensures status { IfOk result (λ reply. reply.status ≡ Status.NotLearned) }
 {
@@ -122,19 +122,34 @@ fn reply_to_unlearned(alloc: Global, job: &Job, why: &LearnError) -> Result<Repl
     }
 }
 
-/// What is told of graphs that are all learned.
-fn told_learned(
+/// This text on out, and nothing on err.
+fn success_of(alloc: Global, out: Vec<u8>) -> Reply
+    ensures answer { answer_of result ≡ success out.items }
+    ensures status { result.status ≡ Status.Done }
+{
+    Reply {
+        status: Status::Done,
+        out,
+        err: Vec::new(alloc),
+    }
+}
+
+/// The reply to a job whose graphs are all learned.
+fn reply_to_learned(
     alloc: Global,
     job: &Job,
     learned: &Learned,
     task: Task,
-) -> Result<Vec<u8>, AllocError>
-    requires { Fits job.now.graphs learned.now }
-    ensures { IfOk result (λ text. ModuliArePrime → LearnedAnswer task (form job.now) learned.now (success text.items)) }
+) -> Result<Reply, AllocError>
+    requires need { job.now.need ≡ spec.need_of task }
+    requires fits { FitsJob job.now.need (form job.now) (Ok learned.now) }
+    ensures answer { IfOk result (λ reply. ModuliArePrime → LearnedAnswer task (form job.now) learned.now (answer_of reply)) }
+    ensures status { IfOk result (λ reply. IsJobStatus reply.status) }
 {
     match task {
-        Task::Sample(modulus) => sample(alloc, job, learned, modulus),
-        Task::Learn => lessons(alloc, job, learned),
+        Task::Sample(modulus) => Ok(success_of(alloc, sample(alloc, job, learned, modulus)?)),
+        Task::Learn => Ok(success_of(alloc, lessons(alloc, job, learned)?)),
+        Task::Reconstruct => reply_to_functions(alloc, job, learned),
     }
 }
 
@@ -142,14 +157,10 @@ fn told_learned(
 fn reply_to_job(alloc: Global, job: &Job, task: Task) -> Result<Reply, AllocError>
     requires { job.now.need ≡ spec.need_of task }
     ensures answer { IfOk result (λ reply. ModuliArePrime → JobAnswer task (form job.now) (answer_of reply)) }
-    ensures status { IfOk result (λ reply. (reply.status ≡ Status.Done) ⊎ (reply.status ≡ Status.NotLearned)) }
+    ensures status { IfOk result (λ reply. IsJobStatus reply.status) }
 {
     match learn(alloc, job) {
-        Ok(learned) => Ok(Reply {
-            status: Status::Done,
-            out: told_learned(alloc, job, &learned, task)?,
-            err: Vec::new(alloc),
-        }),
+        Ok(learned) => reply_to_learned(alloc, job, &learned, task),
         Err(why) => Ok(reply_to_unlearned(alloc, job, &why)?),
     }
 }

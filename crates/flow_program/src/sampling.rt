@@ -1,65 +1,68 @@
 //! The lines of a sampling.
 
-ghost use Rattle.std.specs.Prelude.{◌≡◌, ◌++◌, ℕ, List, Some, OnOk, IfOk, slice_get, length};
+ghost use Rattle.std.specs.Prelude.{◌≡◌, ◌*◌, ◌<◌, ◌≤◌, ◌++◌, OnOk, IfOk, length};
+ghost use Rattle.std.specs.List.{flat_map};
 ghost use Rattle.prime_field.specs.Modulus.{value_of};
 ghost use Rattle.prime_field.specs.Residue.{IsPrime};
-ghost use Rattle.graph_eval.specs.Evaluated.{HasInputs, outcome_of};
-ghost use Rattle.graph_eval.specs.GraphValue.{main_number};
+ghost use Rattle.graph_eval.specs.GraphValue.{Value, SingularAt};
 ghost use Rattle.graph_eval.specs.Learned.{Fits, outputs_of, sets_of};
-ghost use Rattle.graph_eval.specs.Made.{IsMadeFor};
 ghost use Rattle.flow_program.specs.Refusals.{node_names};
-ghost use Rattle.flow_program.specs.Sampled.{AddsPoint, SamplesTo, outcome_line};
+ghost use Rattle.flow_program.specs.Sampled.{AddsRow, SamplesTo, outcome_line};
 
 use crate::printed::push_residues;
 use crate::refusals::push_singular;
-use graph_eval::{Learned, Outcome, Worker, main_graph};
+use graph_eval::{Learned, Singular, main_graph};
 use graph_file::{Graph, Job};
-use poly_maps::Point;
+use parallel_sampler::Samples;
 use prime_field::Modulus;
 use std::alloc::{AllocError, Global};
 
-/// Writes the line of one outcome, whose values are `values` where it is defined, behind the text.
-fn push_outcome(
-    text: &mut Vec<u8>,
-    graph: &Graph,
-    outcome: Outcome,
-    values: &[u64],
-) -> Result<(), AllocError>
-    ensures { OnOk result (text.new.items ≡ text.old.items ++ outcome_line (node_names graph.now) (outcome_of values.now outcome)) }
+/// Writes the line of a point at which the graph has these values behind the text.
+fn push_values(text: &mut Vec<u8>, graph: &Graph, values: &[u64]) -> Result<(), AllocError>
+    ensures { OnOk result (text.new.items ≡ text.old.items ++ outcome_line (node_names graph.now) (Value values.now)) }
 {
-    match outcome {
-        Outcome::Defined => push_residues(text, values)?,
-        Outcome::Singular(singular) => {
-            text.extend_from_slice(b"singular ")?;
-            push_singular(text, graph, singular)?;
-        }
-    }
+    // The line of values names no node.
+    let _graph = graph;
+    push_residues(text, values)?;
     text.push(b'\n')?;
     Ok(())
 }
 
-/// Writes the line of what the main graph gives at a point behind the text. The values are written to `values`, which
-/// has a place for each entry of the output.
-fn push_point(
-    alloc: Global,
+/// Writes the line of a point at which this node of the graph has no value behind the text.
+fn push_without_value(
     text: &mut Vec<u8>,
-    worker: &mut Worker,
-    job: &Job,
-    learned: &Learned,
-    modulus: Modulus,
-    point: &Point,
-    values: &mut [u64],
+    graph: &Graph,
+    singular: Singular,
 ) -> Result<(), AllocError>
-    requires made { IsMadeFor job.now.graphs worker.old }
-    requires fits { Fits job.now.graphs learned.now }
-    requires entries { HasInputs (slice_get job.now.graphs (main_number job.now.graphs)) point.now }
-    requires room { length values.old ≡ outputs_of learned.now }
-    ensures made { IsMadeFor job.now.graphs worker.new }
-    ensures line { OnOk result (IsPrime (value_of modulus) → AddsPoint (value_of modulus) job.now.graphs (sets_of learned.now) point.now text.old.items text.new.items) }
+    ensures { OnOk result (text.new.items ≡ text.old.items ++ outcome_line (node_names graph.now) (SingularAt singular.node singular.cause)) }
 {
-    let graph = main_graph(job);
-    let outcome = worker.eval_point(alloc, job, learned, modulus, point, values)?;
-    push_outcome(text, graph, outcome, values)?;
+    text.extend_from_slice(b"singular ")?;
+    push_singular(text, graph, singular)?;
+    text.push(b'\n')?;
+    Ok(())
+}
+
+/// Writes the line of row `i` behind the text.
+fn push_row(text: &mut Vec<u8>, graph: &Graph, rows: &Samples, i: usize) -> Result<(), AllocError>
+    requires { i < length rows.now }
+    ensures { OnOk result (AddsRow (node_names graph.now) rows.now i text.old.items text.new.items) }
+{
+    if let Some(values) = rows.values(i) {
+        return push_values(text, graph, values);
+    }
+    let Some(singular) = rows.singular(i) else {
+        unreachable!()
+    };
+    push_without_value(text, graph, singular)
+}
+
+/// Writes the lines of all rows behind the text.
+fn push_rows(text: &mut Vec<u8>, graph: &Graph, rows: &Samples) -> Result<(), AllocError>
+    ensures { OnOk result (text.new.items ≡ text.old.items ++ flat_map (outcome_line (node_names graph.now)) rows.now) }
+{
+    for i in 0..rows.len() {
+        push_row(text, graph, rows, i)?;
+    }
     Ok(())
 }
 
@@ -70,23 +73,13 @@ pub(crate) fn sample(
     learned: &Learned,
     modulus: Modulus,
 ) -> Result<Vec<u8>, AllocError>
-    requires { Fits job.now.graphs learned.now }
+    requires fits { Fits job.now.graphs learned.now }
+    requires room { length job.now.points * outputs_of learned.now ≤ 1048576 }
     ensures { IfOk result (λ text. IsPrime (value_of modulus) → SamplesTo (value_of modulus) job.now.graphs (sets_of learned.now) job.now.points text.items) }
 {
-    let mut worker = Worker::new(alloc, job, learned)?;
-    let mut values = vec![in alloc; 0; learned.outputs()]?;
+    let graph = main_graph(job);
+    let rows = parallel_sampler::sample(alloc, job, learned, modulus, job.points.as_slice())?;
     let mut text = Vec::new(alloc);
-    for point in job.points.as_slice() {
-        push_point(
-            alloc,
-            &mut text,
-            &mut worker,
-            job,
-            learned,
-            modulus,
-            point,
-            &mut values,
-        )?;
-    }
+    push_rows(&mut text, graph, &rows)?;
     Ok(text)
 }

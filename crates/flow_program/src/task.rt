@@ -13,6 +13,8 @@ pub(crate) enum Task {
     Sample(Modulus),
     /// The graphs are learned.
     Learn,
+    /// The outputs of the main graph are reconstructed as functions.
+    Reconstruct,
 }
 
 /// The modulus that is asked for.
@@ -33,5 +35,6 @@ pub(crate) fn need_of(task: Task) -> Need
     match task {
         Task::Sample(_) => Need::Points,
         Task::Learn => Need::Learning,
+        Task::Reconstruct => Need::Functions,
     }
 }

@@ -416,6 +416,128 @@ fn the_first_bad_line_is_told_with_its_kind(rt: HostRuntime) -> Result<(), Fail>
     Ok(())
 }
 
+/// A file of the variables x and y whose output has these expressions, with these lines behind it.
+fn with_bounds(alloc: Global, exprs: &str, lines: &str) -> Result<String, AllocError> {
+    format!(in alloc;
+        "flow 1\ngraph main\ninput x y\nnode r eval input = {exprs}\noutput r\n{lines}\n"
+    )
+}
+
+#[test]
+fn outputs_are_reconstructed_as_functions(rt: HostRuntime) -> Result<(), Fail> {
+    let cases = [
+        ("x - x", "bounds all num 1 den 1", 0, "f1 = 0\n"),
+        (
+            "(x^2-y^2)/(x-y)",
+            "bounds all num 3 den 2",
+            0,
+            "f1 = x + y\n",
+        ),
+        (
+            "((x^2+1)*y)/(x*y+3)",
+            "bounds all num 3 den 2",
+            0,
+            "f1 = (x^2*y + y)/(x*y + 3)\n",
+        ),
+        (
+            "1/2*x + 1/3",
+            "bounds all num 1 den 0",
+            0,
+            "f1 = 1/2*x + 1/3\n",
+        ),
+        (
+            "1/2*x + 1/3 ; 7*x",
+            "bounds all num 1 den 0\ncoeff 3 3",
+            1,
+            "f1 = 1/2*x + 1/3\nf2 ? norational numerator x 7\n",
+        ),
+        (
+            "1/2*x + 1/3 ; x*y ; 0 ; -x",
+            "bounds 2 num 2 den 0\nbounds all num 1 den 0\npoint 1 2",
+            0,
+            "f1 = 1/2*x + 1/3\nf2 = x*y\nf3 = 0\nf4 = -x\n",
+        ),
+        ("5*x", "bounds all num 1 den 0\ncoeff 5 1", 0, "f1 = 5*x\n"),
+        ("1/(x-y)", "bounds all num 2 den 0", 1, "f1 ? nopair 1\n"),
+        (
+            "1/(2305843009213693951*x+1)",
+            "bounds all num 0 den 1",
+            1,
+            "f1 ? unlike 1 x\n",
+        ),
+    ];
+    for (exprs, lines, status, out) in cases {
+        let file = with_bounds(rt.alloc(), exprs, lines)?;
+        let told = run_on(rt.alloc(), &["reconstruct", "f"], steady(file.as_bytes()))?;
+        assert!(rt; is_told(&told, status, out, ""), "{exprs}: {told:?}");
+    }
+    Ok(())
+}
+
+#[test]
+fn a_modulus_without_a_good_attempt_is_told_with_its_gaps(rt: HostRuntime) -> Result<(), Fail> {
+    let first =
+        "flow: modulus 1 exhausted\nattempt 0 point 0 r division\nattempt 1 point 0 r division\nattempt 2 point 0 r division\nattempt 3 point 0 r division\nattempt 4 point 0 r division\nattempt 5 point 0 r division\nattempt 6 point 0 r division\nattempt 7 point 0 r division\n";
+    let second =
+        "flow: modulus 2 exhausted\nattempt 0 point 0 r division\nattempt 1 point 0 r division\nattempt 2 point 0 r division\nattempt 3 point 0 r division\nattempt 4 point 0 r division\nattempt 5 point 0 r division\nattempt 6 point 0 r division\nattempt 7 point 0 r division\n";
+    let cases = [("x ; 1/(x-x)", first), ("1/9223372036854775783", second)];
+    for (exprs, err) in cases {
+        let file = with_bounds(rt.alloc(), exprs, "bounds all num 0 den 0")?;
+        let told = run_on(rt.alloc(), &["reconstruct", "f"], steady(file.as_bytes()))?;
+        assert!(rt; is_told(&told, 5, "", err), "{exprs}: {told:?}");
+    }
+    Ok(())
+}
+
+#[test]
+fn what_a_file_lacks_for_functions_is_told(rt: HostRuntime) -> Result<(), Fail> {
+    let cases = [
+        ("point 1 2", 3, "flow: line 7: missing\n"),
+        ("bounds all num 65 den 0", 3, "flow: line 6: limit\n"),
+        ("bounds all num 31 den 31", 3, "flow: line 6: limit\n"),
+        ("bounds all num 1 d", 3, "flow: line 6: syntax\n"),
+        (
+            "bounds all num 1 den 0\nbounds all num 1 den 0",
+            3,
+            "flow: line 7: repeated\n",
+        ),
+        (
+            "bounds all num 1 den 0\nbounds 2 num 1 den 0",
+            4,
+            "flow: graph main node r length\n",
+        ),
+    ];
+    for (lines, status, err) in cases {
+        let file = with_bounds(rt.alloc(), "x", lines)?;
+        let told = run_on(rt.alloc(), &["reconstruct", "f"], steady(file.as_bytes()))?;
+        assert!(rt; is_told(&told, status, "", err), "{lines}: {told:?}");
+    }
+    Ok(())
+}
+
+/// The relations that integration by parts gives for the one-loop bubble, as `data/bubble.flow` of the program has them.
+const BUBBLE: &str =
+    "flow 1\ngraph main\ninput d s m\nnode c eval input = s-2*m ; -4*m ; -1 ; d-5 ; -2*m ; 2*s-4*m ; d-4 ; -2 ; 2*s-4*m ; -2*m ; d-4 ; -2 ; -4*m ; s-2*m ; d-5 ; -1 ; s-2*m ; -2*m ; d-3 ; -1 ; -2*m ; s-2*m ; d-3 ; -1 ; -4*m ; d-4 ; -4*m ; d-4 ; -2*m ; d-2 ; -2*m ; d-2\nnode r sparse c 12 want 5 2\nrow 2 3 4 5\nrow 2 3 5 8\nrow 1 2 4 7\nrow 1 2 4 5\nrow 4 5 6 9\nrow 4 5 6 10\nrow 8 10\nrow 7 9\nrow 10 12\nrow 9 11\noutput r\nbounds all num 3 2 1 1 den 4 0 3 3\n";
+
+#[test]
+fn integrals_are_reduced_to_master_integrals(rt: HostRuntime) -> Result<(), Fail> {
+    let out =
+        "f1 = (-d + 3)/(s - 4*m)\nf2 = (d - 2)/(s^2 - 4*s*m)\nf3 = (1/2*d*s - d*m - s + 2*m)/(s^2*m - 4*s*m^2)\nf4 = 0\nf5 = (d^2*s - 9*d*s + 4*d*m + 18*s - 12*m)/(s^3 - 8*s^2*m + 16*s*m^2)\nf6 = (-d^2*m + 1/2*d*s + 5*d*m - s - 6*m)/(s^3*m - 8*s^2*m^2 + 16*s*m^3)\nf7 = (-d^2*m + 1/2*d*s + 5*d*m - s - 6*m)/(s^3*m - 8*s^2*m^2 + 16*s*m^3)\nf8 = 0\n";
+    let told = run_on(rt.alloc(), &["reconstruct", "f"], steady(BUBBLE.as_bytes()))?;
+    assert!(rt; is_told(&told, 0, out, ""), "{told:?}");
+    let learned = run_on(rt.alloc(), &["learn", "f"], steady(BUBBLE.as_bytes()))?;
+    assert!(rt;
+        is_told(
+            &learned,
+            0,
+            "graph main point 0 length 8\nsolver r independent 6 11 12\n",
+            ""
+        ),
+        "{learned:?}"
+    );
+    Ok(())
+}
+
 #[test]
 fn lists_of_wrong_lengths_are_refused(rt: HostRuntime) -> Result<(), Fail> {
     let past = "flow 1\ngraph main\ninput x y\nnode t take input 3\noutput t\npoint 1 2\n";
@@ -430,8 +552,10 @@ fn lists_of_wrong_lengths_are_refused(rt: HostRuntime) -> Result<(), Fail> {
 #[test]
 fn words_that_ask_for_nothing_are_refused_with_their_place(rt: HostRuntime) -> Result<(), Fail> {
     let none: &[&str] = &[];
-    let cases: [(&[&str], &str); 13] = [
+    let cases: [(&[&str], &str); 15] = [
         (none, "1"),
+        (&["reconstruct"], "2"),
+        (&["reconstruct", "f", "--second"], "3"),
         (&["sample"], "2"),
         (&["sample", "a", "b"], "3"),
         (&["sample", "--workers", "17", "f"], "2"),

@@ -3,6 +3,7 @@
 ghost use Rattle.std.specs.Prelude.{◌≡◌, ◌≢◌, ◌≤◌, ◌⊎◌, ◌↔◌, None, IfOk, OnOk, OnErr, IsErrOf, codes};
 ghost use Rattle.flow_base.specs.Counts.{Rose};
 ghost use Rattle.flow_base.specs.Sink.{Adds, AddsFront};
+ghost use Rattle.flow_program.specs.Jobs.{LearnedAnswer};
 ghost use Rattle.flow_program.specs.Outside.{FileRose, IsLearnable, IsRightAnswer, StandsAnswered, outside};
 ghost use Rattle.flow_program.specs.Reply.{answer_of};
 ghost use Rattle.flow_program.specs.Run.{ModuliArePrime};
@@ -18,6 +19,7 @@ use crate::status::Status;
 use crate::task::Task;
 use crate::words::{Command, WordsError, read_words};
 use flow_base::{OpenError, ReadError, Shelf, Sink, WriteFault, read_all, write_all_of};
+use reconstruction::{functions_are_printed, one_finding};
 use std::alloc::{AllocError, Global};
 
 /// Why there is no reply.
@@ -78,7 +80,7 @@ fn answer_command<H: Shelf>(
 fn work_out<H: Shelf>(alloc: Global, words: &[String], shelf: &mut H) -> Result<Reply, Trouble>
     ensures right { IfOk result (λ reply. IsRightAnswer (texts words.now) (H.view shelf.old) (answer_of reply)) }
     ensures status { IfOk result (λ reply. code_of reply.status ≤ 5) }
-    ensures learned { IfOk result (λ reply. ModuliArePrime → IsLearnable (texts words.now) (H.view shelf.old) → reply.status ≡ Status.Done) }
+    ensures learned { IfOk result (λ reply. ModuliArePrime → (file : IsLearnable (texts words.now) (H.view shelf.old)) → LearnedAnswer (task_of file.wish) file.form file.learned (answer_of reply)) }
     ensures words { IfOk result (λ reply. (reply.status ≡ Status.BadWords) ↔ (asked (texts words.now) ≡ None)) }
     ensures failed { IsErrOf result Trouble.ReadFault → FileRose (asked (texts words.now)) (H.view shelf.old) (H.view shelf.new) }
 {
@@ -146,6 +148,9 @@ pub fn run<H: Shelf, O: Sink, E: Sink>(
         let after = outside (H.view shelf.new) (O.view out.new) (E.view err.new) in
         Runs (texts words.now) before after result }
 {
+    // What is said of functions follows from these laws.
+    one_finding();
+    functions_are_printed();
     match work_out(alloc, words, shelf) {
         Ok(reply) => match deliver(&reply, out, err) {
             Ok(()) => reply.status,

@@ -1,8 +1,8 @@
 //! The words after the program's name.
 
-ghost use Rattle.std.specs.Prelude.{◌≡◌, ◌<◌, ◌-◌, ℕ, None, false, length, IfOk};
-ghost use Rattle.flow_program.specs.Words.{IsBadAt, asked, is_file, request, texts};
-ghost use Rattle.flow_program.specs.Parsed.{Reads, parsed, parsed_from, parsed_learn};
+ghost use Rattle.std.specs.Prelude.{◌≡◌, ◌<◌, ◌-◌, ℕ, List, None, false, length, IfOk};
+ghost use Rattle.flow_program.specs.Words.{IsBadAt, Request, asked, is_file, request, texts};
+ghost use Rattle.flow_program.specs.Parsed.{Finds, Reads, parsed, parsed_alone, parsed_from};
 
 use crate::task::{Task, modulus_of};
 use std::alloc::{AllocError, Global};
@@ -15,6 +15,8 @@ pub enum Command {
     Sample { file: String, second: bool },
     /// Learns the graphs of the file.
     Learn { file: String },
+    /// Reconstructs the functions that the outputs of the file's main graph are.
+    Reconstruct { file: String },
 }
 
 impl Command {
@@ -27,7 +29,7 @@ impl Command {
     {
         match self {
             Command::Sample { file, second: _ } => file.as_str(),
-            Command::Learn { file } => file.as_str(),
+            Command::Learn { file } | Command::Reconstruct { file } => file.as_str(),
         }
     }
 
@@ -38,6 +40,7 @@ impl Command {
         match self {
             Command::Sample { file: _, second } => Task::Sample(modulus_of(*second)),
             Command::Learn { file: _ } => Task::Learn,
+            Command::Reconstruct { file: _ } => Task::Reconstruct,
         }
     }
 }
@@ -98,17 +101,16 @@ fn parse_sample(alloc: Global, words: &[String]) -> Result<Command, WordsError>
     Ok(Command::Sample { file, second })
 }
 
-/// What the words behind `learn` ask for.
-fn parse_learn(alloc: Global, words: &[String]) -> Result<Command, WordsError>
-    ensures { Reads result (parsed_learn (texts words.now)) }
+/// The file behind the name of a command that takes a file and nothing else.
+fn parse_alone(alloc: Global, words: &[String]) -> Result<String, WordsError>
+    ensures { (wish : List ℕ → Request) → Finds wish result (parsed_alone wish (texts words.now)) }
 {
     match words {
         [file, rest @ ..] if is_file_name(file.as_str()) => {
             if !rest.is_empty() {
                 return Err(WordsError::Bad { word: 3 });
             }
-            let file = String::from_str(alloc, file.as_str())?;
-            Ok(Command::Learn { file })
+            Ok(String::from_str(alloc, file.as_str())?)
         }
         _ => Err(WordsError::Bad { word: 2 }),
     }
@@ -120,7 +122,12 @@ fn parse_words(alloc: Global, words: &[String]) -> Result<Command, WordsError>
 {
     match words {
         [word, rest @ ..] if word.as_str() == "sample" => Ok(parse_sample(alloc, rest)?),
-        [word, rest @ ..] if word.as_str() == "learn" => Ok(parse_learn(alloc, rest)?),
+        [word, rest @ ..] if word.as_str() == "learn" => Ok(Command::Learn {
+            file: parse_alone(alloc, rest)?,
+        }),
+        [word, rest @ ..] if word.as_str() == "reconstruct" => Ok(Command::Reconstruct {
+            file: parse_alone(alloc, rest)?,
+        }),
         _ => Err(WordsError::Bad { word: 1 }),
     }
 }

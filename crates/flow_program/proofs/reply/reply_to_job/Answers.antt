@@ -1,13 +1,14 @@
 -- The answer of the job follows from what learning its graphs gave.
 use Rattle.graph_file.specs.Says.{form}
 use Rattle.flow_program.specs.Reply.{answer_of}
-use Rattle.flow_program.proofs.JobLaws.{learned_job, unlearned_job}
+use Rattle.flow_program.proofs.FunctionLaws.{learned_reply}
+use Rattle.flow_program.proofs.JobLaws.{unlearned_job}
 use Rattle.flow_program.proofs.reply.reply_to_job.Goals as goal
 
-pub returns-in_ok-told_learned-in-Ok-clause-answer : goal.returns-in_ok-told_learned-in-Ok-clause-answer
-returns-in_ok-told_learned-in-Ok-clause-answer c = λ prime.
+pub returns-in-Ok-clause-answer : goal.returns-in-Ok-clause-answer
+returns-in-Ok-clause-answer c =
     let job = c.args.job.now in
-    learned_job c.args.task (form job) job.need c.in-Ok.learned c.in_ok-told_learned-in-Ok.field-0.items c.new.result.items c.requires (c.in-Ok.ensures.told prime.first) (c.in_ok-told_learned-in-Ok.ensures prime) c.new.ensures.items
+    learned_reply c.reply_to_learned.result c.args.task (form job) job.need c.in-Ok.learned c.requires (λ prime. c.in-Ok.ensures.told prime.first) c.reply_to_learned.ensures.answer
 
 pub returns-in_ok-reply_to_unlearned-in-Err-clause-answer : goal.returns-in_ok-reply_to_unlearned-in-Err-clause-answer
 returns-in_ok-reply_to_unlearned-in-Err-clause-answer c = λ prime.
