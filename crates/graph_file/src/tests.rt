@@ -37,7 +37,7 @@ fn types_cross_threads() {
     crosses::<Node>();
     crosses::<Graph>();
     crosses::<Point>();
-    crosses::<Job>();
+    crosses::<Need>();
     crosses::<Special>();
     crosses::<FileError>();
 }
