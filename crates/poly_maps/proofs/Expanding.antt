@@ -16,7 +16,7 @@ use Rattle.poly_maps.specs.Mono.{mono_value, is_same, HasEight}
 use Rattle.poly_maps.specs.Polynomial.{coefficient, value_at, Supported, times, AreResidues, IsPolynomial}
 use Rattle.poly_maps.specs.Moved.{point_sum, moved_mono, moved}
 use Rattle.poly_maps.specs.Shifted.{negatives}
-use Rattle.poly_maps.specs.Univariate.{univariate_value}
+use Rattle.univariate.specs.Univariate.{univariate_value}
 use Rattle.poly_maps.specs.Expansion.{residues, times_sum, power_row, spread, alone, IsPowerRow, AreMoved}
 use Rattle.poly_maps.proofs.Terms.{coefficient-append, coefficient-residue, Supported-append}
 use Rattle.poly_maps.proofs.Linear.{AreAlike}

@@ -17,5 +17,4 @@ pub mod ProductDegrees
 pub mod Rays
 pub mod Reductions
 pub mod Terms
-pub mod Univariate
 pub mod Within

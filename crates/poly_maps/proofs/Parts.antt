@@ -4,7 +4,7 @@ use Rattle.std.proofs.Math.Nat.{pow-suc, pow-zero, eq_of_mul-eq-mul_left, add-mu
 use Rattle.std.proofs.Math.Dec.{eqb-zero-suc, eqb-suc-zero, eqb-suc-suc}
 use Rattle.poly_maps.specs.Mono.{mono_value, is_same}
 use Rattle.poly_maps.specs.Polynomial.{coefficient, value_at, degree_in, Supported}
-use Rattle.poly_maps.specs.Univariate.{univariate_value}
+use Rattle.univariate.specs.Univariate.{univariate_value}
 
 -- the first n values of a function, as coefficients
 abbrev pub upto : ℕ → (ℕ → ℕ) → List ℕ

@@ -5,7 +5,7 @@ use Rattle.std.proofs.lemmas.Grind.{same_number_lists}
 use Rattle.std.proofs.lemmas.List.{get_or_past}
 use Rattle.std.specs.declared.cmp.Ordering.TheVariants.{Less, Equal}
 use Rattle.poly_maps.specs.Mono.{mono_cmp}
-use Rattle.poly_maps.specs.Univariate.{IsTrimmed}
+use Rattle.univariate.specs.Univariate.{IsTrimmed}
 use Rattle.poly_maps.proofs.MonoLemmas.{mono_total, mono_itself}
 use Rattle.poly_maps.proofs.Enumerated.{Each, In, Ascends, Each-in, Contains-in, In-contains}
 

@@ -9,7 +9,7 @@ use Rattle.prime_field.proofs.Residues.{add-cong, mul-cong}
 use Rattle.poly_maps.specs.Mono.{degree, mono_value}
 use Rattle.poly_maps.specs.Polynomial.{value_at, total_degree}
 use Rattle.poly_maps.specs.Moved.{point_sum, scaled, moved, graded}
-use Rattle.poly_maps.specs.Univariate.{univariate_value, IsTrimmed}
+use Rattle.univariate.specs.Univariate.{univariate_value, IsTrimmed}
 use Rattle.poly_maps.proofs.Gathered.{degree-at}
 use Rattle.poly_maps.proofs.Terms.{value_at-append}
 use Rattle.poly_maps.proofs.Linear.{sum_over, AreAlike, sum-alike}

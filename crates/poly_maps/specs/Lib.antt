@@ -13,4 +13,3 @@ pub mod Powers
 pub mod Quotient
 pub mod Reduced
 pub mod Shifted
-pub mod Univariate

@@ -11,7 +11,7 @@ ghost use Rattle.poly_maps.specs.Fraction.{IsRational, fraction_at};
 ghost use Rattle.poly_maps.specs.Mono.{mono_cmp};
 ghost use Rattle.poly_maps.specs.Pair.{Agrees, CrossEqual};
 ghost use Rattle.poly_maps.specs.Polynomial.{coefficient, value_at, leading, product_of, total_degree, degree_in, IsPolynomial};
-ghost use Rattle.poly_maps.specs.Univariate.{IsTrimmed};
+ghost use Rattle.univariate.specs.Univariate.{IsTrimmed};
 
 /// A polynomial is pinned by its coefficients.
 pub fn coefficients_pin()

@@ -18,7 +18,6 @@ mod rational;
 mod ray;
 mod shift;
 mod term_list;
-mod zeros;
 
 pub use bound::{Bound, Bounds};
 pub use degrees::{product_degrees, product_degrees_at_most};
@@ -36,7 +35,6 @@ pub use point::Point;
 pub use poly::Poly;
 pub use quotient::Quotient;
 pub use rational::RatPoly;
-pub use zeros::few_zeros;
 
 /// Memory ran out.
 pub type NoMemory = std::alloc::AllocError;

@@ -6,7 +6,7 @@ ghost use Rattle.poly_maps.specs.Polynomial.{coefficient, value_at, Supported};
 ghost use Rattle.poly_maps.specs.Moved.{point_sum, scaled, moved, graded};
 ghost use Rattle.poly_maps.specs.Shifted.{negatives, IsLower};
 ghost use Rattle.poly_maps.specs.Bound.{IsWithin};
-ghost use Rattle.poly_maps.specs.Univariate.{univariate_value};
+ghost use Rattle.univariate.specs.Univariate.{univariate_value};
 ghost use Rattle.poly_maps.specs.declared.bound.Bound.{Bound};
 
 /// The value of the moved polynomial is that of the polynomial at the moved point.

@@ -4,7 +4,7 @@ ghost use Rattle.std.specs.Prelude.{◌≡◌, ◌≢◌, ℕ, ◌+◌, ◌-◌,
 ghost use Rattle.prime_field.specs.Modulus.{value_of};
 ghost use Rattle.poly_maps.specs.Polynomial.{value_at, total_degree, AreResidues};
 ghost use Rattle.poly_maps.specs.Moved.{moved, graded, point_sum, scaled};
-ghost use Rattle.poly_maps.specs.Univariate.{univariate_value, IsTrimmed};
+ghost use Rattle.univariate.specs.Univariate.{univariate_value, IsTrimmed};
 
 use crate::powers::Powers;
 use crate::shift::moved_by;

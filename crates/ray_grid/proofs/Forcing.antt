@@ -29,7 +29,7 @@ use Rattle.ray_grid.specs.Attempt.{shift, slopes, lists_below, ray, attempt_poin
 use Rattle.ray_grid.specs.Grid.{IsGrid, bound_of, later_degrees}
 use Rattle.ray_grid.specs.Vanishing.{grid_point, AreAxes}
 use Rattle.ray_grid.proofs.Directions.{headless, value-headless, coefficient-headless, Supported-graded, Supported-headless, later_bound, WithinBound-later, total_degree-within, value-congruent}
-use Rattle.ray_grid.proofs.Units.{row_apart}
+use Rattle.univariate.proofs.Small.{row-apart}
 use Rattle.ray_grid.proofs.Vanishing.{coefficient-outside, upto_vanish, lower_vanishing}
 
 -- ---- what holds at all points holds along each direction's ray
@@ -69,7 +69,7 @@ All-lists_below P f (e ∷ each) all (k ∷ j) below =
 ray_vanishes : (m : Modulus) (total : ℕ) (p : List (List ℕ × ℕ)) (s d : List ℕ) → total ≤ 128 → total_degree (moved s p) ≤ total →
     All (λ x. value_at p x % value_of m ≡ 0) (ray (total + 3) s d) → (k : ℕ) → k ≤ total → value_at (graded k (moved s p)) d % value_of m ≡ 0
 ray_vanishes m total p s d few low all k within =
-    upto_vanish (value_of m) (total + 1) (λ i. value_at (graded i (moved s p)) d) (λ t. 1 + t) (row_apart m (total + 1) 1 (omega arith))
+    upto_vanish (value_of m) (total + 1) (λ i. value_at (graded i (moved s p)) d) (λ t. 1 + t) (row-apart m (total + 1) 1 (omega arith))
     (λ t below. ap (λ v. v % value_of m) (sym (value-ray (total + 1) (1 + t) p s d (omega arith))) ∙ zeros t below)
     k (omega arith)
   where
@@ -91,7 +91,7 @@ axes_from gamma (top ∷ tops) = (λ k. first_entry gamma + k) ∷ axes_from (la
 AreAxes-from : (m : Modulus) (gamma tops : List ℕ) → ((k : ℕ) → get_or tops k 0 ≤ 130) → AreAxes (value_of m) (axes_from gamma tops) tops
 unfolding axes_from
 AreAxes-from m gamma [] low = tt
-AreAxes-from m gamma (top ∷ tops) low = (row_apart m (top + 1) (first_entry gamma) (omega (arith, low 0)), AreAxes-from m (later_entries gamma) tops (λ k. low (suc k)))
+AreAxes-from m gamma (top ∷ tops) low = (row-apart m (top + 1) (first_entry gamma) (omega (arith, low 0)), AreAxes-from m (later_entries gamma) tops (λ k. low (suc k)))
 
 -- the grid's points are the sums, with zeros behind where there are no slopes
 grid_point-from : (n : ℕ) (gamma tops j : List ℕ) → length gamma ≡ n → n ≤ length tops → ((k : ℕ) → n ≤ k → get_or tops k 0 ≡ 0) → IsBelow j tops →

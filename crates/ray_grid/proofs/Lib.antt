@@ -1,5 +1,4 @@
 pub mod Directions
 pub mod Forcing
 pub mod RayLemmas
-pub mod Units
 pub mod Vanishing

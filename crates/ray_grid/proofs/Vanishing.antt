@@ -7,12 +7,12 @@ use Rattle.poly_maps.specs.declared.bound.Bound.{Bound}
 use Rattle.poly_maps.specs.Mono.{degree, is_same, IsBelow}
 use Rattle.poly_maps.specs.Polynomial.{coefficient, value_at, degree_in, Supported}
 use Rattle.poly_maps.specs.Shifted.{IsLower}
-use Rattle.poly_maps.specs.Univariate.{univariate_value, AllVanish, AreApart}
+use Rattle.univariate.specs.Univariate.{univariate_value, AllVanish, AreApart}
 use Rattle.poly_maps.proofs.Linear.{value-alike}
 use Rattle.poly_maps.proofs.MonoLemmas.{is_same-true}
 use Rattle.poly_maps.proofs.Moves.{Supported-sub, WithinBound-lower}
 use Rattle.poly_maps.proofs.Parts.{HasPlaces, upto, part, coefficient-part, value-parts, same_values}
-use Rattle.poly_maps.proofs.Univariate.{zero-sum, zero-times, vanishing}
+use Rattle.univariate.proofs.Counting.{zero-sum, zero-times, vanishing}
 use Rattle.poly_maps.proofs.Within.{IsBelow-places}
 use Rattle.ray_grid.specs.Vanishing.{grid_point, AreAxes}
 

@@ -1,6 +1,6 @@
 -- Grids of points: in each variable the values of one axis.
 use Rattle.std.specs.Prelude.{ℕ, ◌+◌, List, [], ◌∷◌}
-use Rattle.poly_maps.specs.Univariate.{AreApart}
+use Rattle.univariate.specs.Univariate.{AreApart}
 
 -- the point that has in each variable its axis's value at the place that j has there
 abbrev pub grid_point : List (ℕ → ℕ) → List ℕ → List ℕ

@@ -80,3 +80,14 @@ HasLength-below m e n p residues below trimmed =
       | inl high ↦ absurd (trimmed.1 (omega arith) (sym (mod-eq_of_lt (residues (n - 1))) ∙ below (n - 1) (omega arith)))
       | inr low ↦ low
     ]
+
+-- no list has two numbers of coefficients
+length-at_most : (n k : ℕ) (p : List ℕ) → HasLength n p → HasLength k p → n ≤ k
+length-at_most n k p trimmed other =
+    elim (cases_lt k n) [
+      | inl longer ↦ absurd (trimmed.1 (omega arith) (other.0 (n - 1) (omega arith)))
+      | inr within ↦ within
+    ]
+
+pub one-length : (n k : ℕ) (p : List ℕ) → HasLength n p → HasLength k p → n ≡ k
+one-length n k p trimmed other = omega (arith, length-at_most n k p trimmed other, length-at_most k n p other trimmed)

@@ -68,6 +68,10 @@ near-apart m n f near i j before below =
           add-cong (value_of m) (f i * b) (f i * b) (d * b) 1 refl inverse.1,
     )
 
+-- at most 131 numbers in a row are apart
+pub row-apart : (m : Modulus) (n a : ℕ) → n ≤ 131 → AreApart (value_of m) n (λ k. a + k)
+row-apart m n a few = near-apart m n (λ k. a + k) (λ i j before below. (omega arith, omega arith))
+
 -- each entry is above a, by 130 at most
 abbrev pub near_all : ℕ → List ℕ → Bool
 near_all a [] = true

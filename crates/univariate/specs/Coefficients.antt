@@ -31,10 +31,6 @@ IsBelow m e p = (k : ℕ) → e ≤ k → slice_index p k % m ≡ 0
 abbrev pub Alike : ℕ → List ℕ → List ℕ → Type 0
 Alike m p q = (k : ℕ) → slice_index p k % m ≡ slice_index q k % m
 
--- modulo m some polynomial times d is p
-abbrev pub Divides : ℕ → List ℕ → List ℕ → Type 0
-Divides m d p = (q : List ℕ) × Alike m p (product_of q d)
-
 -- each coefficient is a residue modulo m
 abbrev pub AreResidues : ℕ → List ℕ → Type 0
 AreResidues m p = (k : ℕ) → slice_index p k < m

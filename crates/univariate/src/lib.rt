@@ -7,4 +7,4 @@ mod lists;
 mod zeros;
 
 pub use lists::{add_multiple, fused, multiply_by_root, scale, trimmed_length, value};
-pub use zeros::{few_zeros, near_points, same_values};
+pub use zeros::{few_zeros, near_points, one_length, same_values};

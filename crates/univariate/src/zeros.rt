@@ -3,7 +3,7 @@
 ghost use Rattle.std.specs.Prelude.{◌≡◌, ℕ, ◌+◌, ◌%◌, ◌<◌, ◌≤◌, List, length};
 ghost use Rattle.prime_field.specs.declared.Modulus.{Modulus};
 ghost use Rattle.prime_field.specs.Modulus.{value_of};
-ghost use Rattle.univariate.specs.Coefficients.{IsBelow, Alike};
+ghost use Rattle.univariate.specs.Coefficients.{IsBelow, Alike, HasLength};
 ghost use Rattle.univariate.specs.Univariate.{univariate_value, AllVanish, AreApart};
 
 /// A polynomial in one variable with as many zeros as coefficients is zero, where each later zero less each earlier
@@ -18,6 +18,11 @@ pub fn few_zeros()
 pub fn same_values()
     ensures { (m n : ℕ) (f : ℕ → ℕ) (p q : List ℕ) → 0 < m → IsBelow m n p → IsBelow m n q → AreApart m n f →
         ((j : ℕ) → j < n → univariate_value p (f j) % m ≡ univariate_value q (f j) % m) → Alike m p q }
+{}
+
+/// A list has one number of coefficients up to its last that isn't 0.
+pub fn one_length()
+    ensures { (n k : ℕ) (p : List ℕ) → HasLength n p → HasLength k p → n ≡ k }
 {}
 
 /// Points of which each later one is greater than each earlier one, by 130 at most, differ by units at both moduli.

@@ -1,4 +1,4 @@
-use Rattle.std.proofs.Common.{arith, refl, negsuc, pos, ap, ◌∙◌, sym}
+use Rattle.std.proofs.Common.{arith, refl, negsuc, pos, ◌∙◌}
 use Rattle.poly_maps.proofs.Fractions.{whole_fraction, part_fraction}
 use Rattle.poly_maps.proofs.quotient.tests.terms_descend_in_whatever_order_they_come.Goals as goal
 
