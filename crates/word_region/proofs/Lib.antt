@@ -1,3 +1,4 @@
+pub mod Boards
 pub mod Frames
 mod Lending
 pub mod Written

@@ -1,3 +1,5 @@
+pub mod Board
 pub mod Frame
+pub mod Lending
 pub mod Lent
 pub mod Words

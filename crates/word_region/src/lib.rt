@@ -3,6 +3,8 @@
 //! The block is taken once, by [`Region::new`]; no other call asks for memory. The used words are the first of the block.
 //! A frame is live while it ends within the used words, and two frames are apart where one ends at or before the place
 //! where the other begins.
+//!
+//! A [`Stack`] is a region whose first words are kept, and whose other used words are a stack of words.
 #![tactic(auto)]
 
 ghost use Rattle.std.specs.Prelude.{◌≡◌, ◌+◌, ◌-◌, ◌<◌, ◌≤◌, ◌↔◌, List, [], ◌++◌, length, take, replicate, IfOk, OnOk, OnErr, IsErr};
@@ -11,7 +13,9 @@ ghost use Rattle.word_region.specs.Frame.{IsLive, AreApart, words_at};
 ghost use Rattle.word_region.specs.Lent.{LendsFrame, LendsUsed};
 
 mod parts;
+mod stack;
 
+pub use stack::Stack;
 use std::alloc::{AllocError, Global};
 use std::marker::Model;
 use thiserror::Error;

@@ -1,4 +1,4 @@
-use crate::{Frame, Full, Mark, NoMemory, Region};
+use crate::{Frame, Full, Mark, NoMemory, Region, Stack};
 use std::marker::Send;
 use std::test::Fail;
 
@@ -79,5 +79,25 @@ fn frames_are_lent_side_by_side(rt: HostRuntime) -> Result<(), Fail> {
 fn a_region_may_go_to_another_thread(rt: HostRuntime) -> Result<(), NoMemory> {
     let region = sent(Region::new(rt.alloc(), 4)?);
     assert_eq!(rt; region.free(), 4);
+    Ok(())
+}
+
+// A list and a copy of it stand on a stack over two kept words; the copy moves down, is kept, and comes back.
+#[test]
+fn a_stack_over_two_kept_words(rt: HostRuntime) -> Result<(), Fail> {
+    let mut stack = Stack::new(rt.alloc(), 8, 2)?;
+    stack.push(&[3, 5]);
+    let (below, top) = stack.grow(2);
+    top.copy_from_slice(below);
+    assert_eq!(rt; (stack.len(), stack.free()), (4, 2));
+    assert_eq!(rt; stack.words(), [3, 5, 3, 5].as_slice());
+    stack.collapse(1, 3, 4);
+    assert_eq!(rt; stack.words(), [3, 5].as_slice());
+    stack.store(1, 2, 1);
+    assert_eq!(rt; stack.kept(), [0, 5].as_slice());
+    stack.recall(1, 2);
+    stack.cut(3);
+    assert_eq!(rt; stack.words(), [3, 5, 5].as_slice());
+    assert_eq!(rt; stack.free(), 3);
     Ok(())
 }
