@@ -1,19 +1,19 @@
 -- Products of differences, and what one more point changes in Newton's form.
-use Rattle.std.proofs.Common.{◌≡◌, ℕ, zero, suc, ◌+◌, ◌-◌, ◌*◌, ◌%◌, ◌<◌, ◌≤◌, List, [], ◌∷◌, take, slice_index, refl, sym, ◌∙◌, ap, arith, inl, inr, mul-one}
+use Rattle.std.proofs.Common.{◌≡◌, ℕ, zero, suc, ◌+◌, ◌-◌, ◌*◌, ◌%◌, ◌<◌, ◌≤◌, List, [], ◌∷◌, slice_index, refl, sym, ◌∙◌, ap, arith, inl, inr, mul-one}
 use Rattle.std.proofs.Math.Nat.{zero-mod, mod_self, mod-mod, mod-lt, mod-eq_of_lt}
 use Rattle.std.proofs.lemmas.Bool.{cases_eq}
-use Rattle.std.proofs.lemmas.List.{get_or-replicate}
-use Rattle.std.proofs.Math.ListN.{set, replicate}
+use Rattle.std.proofs.Math.ListN.{replicate}
 use Rattle.prime_field.specs.Residue.{IsUnit}
 use Rattle.prime_field.proofs.Residues.{add-cong, mul-cong, cancel}
 use Rattle.prime_field.proofs.BatchLemmas.{unit-product}
 use Rattle.univariate.specs.Univariate.{univariate_value, IsApart, AreApart}
-use Rattle.univariate.specs.Coefficients.{sum_of, multiple, raised, product_of, IsBelow, Alike, AreResidues}
-use Rattle.univariate.proofs.Coefficients.{value-sum, value-multiple, value-product, value-alike}
-use Rattle.univariate.proofs.Counting.{zero-times, zero-sum, take-alike, alike_of_values}
+use Rattle.univariate.specs.Coefficients.{sum_of, multiple, product_of, IsBelow, Alike, AreResidues}
+use Rattle.univariate.proofs.Coefficients.{at-sum, at-multiple, value-sum, value-multiple, value-product, value-alike}
+use Rattle.univariate.proofs.Counting.{zero-times, zero-sum, alike_of_values}
 use Rattle.univariate.proofs.Degrees.{below-alike, below-more, below-sum, below-multiple}
-use Rattle.univariate.proofs.Places.{at-linear}
+use Rattle.univariate.proofs.Places.{at-linear, at-linear_first}
 use Rattle.newton_interp.specs.Interpolation.{from_points, IsInterpolant, IsProductOf}
+use Rattle.prime_field.proofs.Units.{unit-cong, unit-mul}
 use Rattle.newton_interp.specs.Stage.{IsStage, Wants}
 
 -- the product over the points is 0 at each of them
@@ -59,133 +59,351 @@ from_points-unit m n k f large low apart within =
 value-root : (c x : ℕ) → univariate_value (c ∷ 1 ∷ []) x ≡ x + c
 value-root c x = omega (arith, ap (λ t. x * t) (mul-one x))
 
--- the product with one more root
-pub product-next : (m k : ℕ) (f : ℕ → ℕ) (p made : List ℕ) → 1 < m → IsProductOf m k f p → Alike m made (product_of ((m - f k) ∷ 1 ∷ []) p) → AreResidues m made → IsProductOf m (suc k) f made
-product-next m k f p made large product alike residues =
-    let c = m - f k in
-    record {
-      residues = residues;
-      degree = higher;
-      leading =
-          sym (mod-eq_of_lt (residues (suc k))) ∙ alike (suc k) ∙ ap (λ t. t % m) (at-linear c p k) ∙
-          add-cong m (slice_index p k) 1 (c * slice_index p (suc k)) 0
-          (ap (λ t. t % m) product.leading)
-          (zero-times m c (slice_index p (suc k)) (product.degree (suc k) (omega arith)) ∙ sym (zero-mod m)) ∙
-          ap (λ t. t % m) (omega arith) ∙ mod-eq_of_lt large;
-      values = λ x.
-          value-alike m made (product_of (c ∷ 1 ∷ []) p) x alike ∙
-          ap (λ t. t % m) (value-product (c ∷ 1 ∷ []) p x ∙ ap (λ t. t * univariate_value p x) (value-root c x)) ∙
-          mul-cong m (x + c) (x + c) (univariate_value p x) (from_points m k f x) refl (product.values x) ∙
-          ap (λ t. t % m) (omega arith);
-    }
-  where
-    higher : IsBelow m (suc (suc k)) made
-    higher zero from = absurd (omega arith)
-    higher (suc i) from =
-        alike (suc i) ∙ ap (λ t. t % m) (at-linear (m - f k) p i) ∙
-        zero-sum m (slice_index p i) ((m - f k) * slice_index p (suc i)) (product.degree i (omega arith))
-        (zero-times m (m - f k) (slice_index p (suc i)) (product.degree (suc i) (omega arith)))
-
--- the values once a multiple of the product is added
-pub added-value : (m k c : ℕ) (f : ℕ → ℕ) (p out made : List ℕ) → IsProductOf m k f p → Alike m made (sum_of out (multiple c (raised 0 (take (k + 1) p)))) → (x : ℕ) →
-    univariate_value made x % m ≡ (univariate_value out x + c * from_points m k f x) % m
-added-value m k c f p out made product alike x =
-    let part = take (k + 1) p in
-    value-alike m made (sum_of out (multiple c part)) x alike ∙
-    ap (λ t. t % m) (value-sum out (multiple c part) x ∙ ap (λ t. univariate_value out x + t) (value-multiple c part x)) ∙
-    add-cong m (univariate_value out x) (univariate_value out x) (c * univariate_value part x) (c * from_points m k f x) refl
-    (mul-cong m c c (univariate_value part x) (from_points m k f x) refl
-    (sym (value-alike m p part x (take-alike m (k + 1) p (λ i from. product.degree i (omega arith)))) ∙ product.values x))
-
--- the new point's value comes out
-reached : (m out missing spread inverse factor v : ℕ) → factor ≡ (missing * inverse) % m → (spread * inverse) % m ≡ 1 → (missing + out) % m ≡ v % m → (out + factor * spread) % m ≡ v % m
-reached m out missing spread inverse factor v is unit wanted =
-    add-cong m out out (factor * spread) missing refl
-    (mul-cong m factor (missing * inverse) spread spread (ap (λ t. t % m) is ∙ mod-mod (missing * inverse) m) refl ∙
-    ap (λ t. t % m) (omega arith) ∙
-    mul-cong m missing missing (spread * inverse) 1 refl (unit ∙ sym (ap (λ t. t % m) (sym unit) ∙ mod-mod (spread * inverse) m ∙ unit)) ∙
-    ap (λ t. t % m) (mul-one missing)) ∙
-    ap (λ t. t % m) (omega arith) ∙ wanted
-
--- what a later point wants is less by what was added there
-kept_wanting : (m out missing spread factor made v : ℕ) → factor ≤ m → made ≡ (missing + (m - factor) * spread) % m → (missing + out) % m ≡ v % m → (made + (out + factor * spread)) % m ≡ v % m
-kept_wanting m out missing spread factor made v low is wanted =
-    add-cong m made (missing + (m - factor) * spread) (out + factor * spread) (out + factor * spread) (ap (λ t. t % m) is ∙ mod-mod (missing + (m - factor) * spread) m) refl ∙
-    ap (λ t. t % m) (regroup (m - factor) (omega arith)) ∙
-    add-cong m (missing + out) (missing + out) (m * spread) 0 refl
-    (mul-cong m m 0 spread spread (mod_self m ∙ sym (zero-mod m)) refl ∙ ap (λ t. t % m) (omega arith)) ∙
-    ap (λ t. t % m) (omega arith) ∙ wanted
-  where
-    regroup : (rest : ℕ) → rest + factor ≡ m → missing + rest * spread + (out + factor * spread) ≡ missing + out + m * spread
-    regroup rest whole = omega (arith, ap (λ t. t * spread) whole)
-
--- what one more point does to the words, with the multiple of the product that is added
-pub record IsStep (m n k : ℕ) (f : ℕ → ℕ) (inverse factor : ℕ) (spread missing product out spread' missing' product' out' : List ℕ) : Type 0 where
-  pub factor_is : factor ≡ (slice_index missing k * inverse) % m
-  pub factor_low : factor ≤ m
-  pub unit : (from_points m k f (f k) * inverse) % m ≡ 1
-  pub added : Alike m out' (sum_of out (multiple factor (raised 0 (take (k + 1) product))))
+-- what one more point does, modulo m: `own` is the product of its differences from the points before, `lack` what its value lacks
+pub record IsStep (m n k : ℕ) (f : ℕ → ℕ) (own lack : ℕ) (spread missing : ℕ → ℕ) (product out : List ℕ) (spread' missing' : ℕ → ℕ) (product' out' : List ℕ) : Type 0 where
+  pub own_is : own % m ≡ spread k % m
+  pub lack_is : lack % m ≡ missing k % m
   pub multiplied : Alike m product' (product_of ((m - f k) ∷ 1 ∷ []) product)
-  pub taken : (j : ℕ) → k < j → j < n → slice_index missing' j ≡ (slice_index missing j + (m - factor) * slice_index spread j) % m
-  pub spread_on : (j : ℕ) → k < j → j < n → slice_index spread' j ≡ (slice_index spread j * (f j + (m - f k))) % m
-  pub out_residues : AreResidues m out'
-  pub product_residues : AreResidues m product'
-  pub missing_residues : AreResidues m missing'
-  pub spread_residues : AreResidues m spread'
+  pub added : Alike m out' (sum_of (multiple own out) (multiple lack product))
+  pub spread_on : (j : ℕ) → k < j → j < n → spread' j % m ≡ (spread j * (f j + (m - f k))) % m
+  pub taken : (j : ℕ) → k < j → j < n → (missing' j + lack * spread j) % m ≡ (own * missing j) % m
 
 -- one more point
-pub stage-next : (m n k : ℕ) (f : ℕ → ℕ) (inverse factor : ℕ) (spread missing product out spread' missing' product' out' : List ℕ) → 1 < m →
-    IsStage m n k f spread missing product out → IsStep m n k f inverse factor spread missing product out spread' missing' product' out' →
-    IsStage m n (suc k) f spread' missing' product' out'
-stage-next m n k f inverse factor spread missing product out spread' missing' product' out' large stage step =
-    let part = take (k + 1) product in
+pub stage-next : (m n k : ℕ) (f : ℕ → ℕ) (own lack : ℕ) (spread missing : ℕ → ℕ) (product out : List ℕ) (spread' missing' : ℕ → ℕ) (product' out' : List ℕ) →
+    IsStage m n k f spread product out → IsStep m n k f own lack spread missing product out spread' missing' product' out' →
+    IsStage m n (suc k) f spread' product' out'
+stage-next m n k f own lack spread missing product out spread' missing' product' out' stage step =
+    let c = m - f k in
     record {
-      spread_residues = step.spread_residues;
-      missing_residues = step.missing_residues;
-      out_residues = step.out_residues;
+      degree = higher;
+      leading =
+          step.multiplied (suc k) ∙ ap (λ t. t % m) (at-linear c product k) ∙
+          add-cong m (slice_index product k) 1 (c * slice_index product (suc k)) 0 stage.leading
+          (zero-times m c (slice_index product (suc k)) (stage.degree (suc k) (omega arith)) ∙ sym (zero-mod m)) ∙
+          ap (λ t. t % m) (omega arith);
+      values = λ x.
+          value-alike m product' (product_of (c ∷ 1 ∷ []) product) x step.multiplied ∙
+          ap (λ t. t % m) (value-product (c ∷ 1 ∷ []) product x ∙ ap (λ t. t * univariate_value product x) (value-root c x)) ∙
+          mul-cong m (x + c) (x + c) (univariate_value product x) (from_points m k f x) refl (stage.values x) ∙
+          ap (λ t. t % m) (omega arith);
       spread_values = λ j from below.
           step.spread_on j (omega arith) below ∙
-          mul-cong m (slice_index spread j) (from_points m k f (f j)) (f j + (m - f k)) (f j + (m - f k))
-          (ap (λ t. t % m) (stage.spread_values j (omega arith) below) ∙ mod-mod (from_points m k f (f j)) m) refl;
-      product_over = product-next m k f product product' large stage.product_over step.multiplied step.product_residues;
-      degree = below-alike m (suc k) out' (sum_of out (multiple factor part)) step.added
-          (below-sum m (suc k) out (multiple factor part) (below-more m k (suc k) out (omega arith) stage.degree)
-          (below-multiple m (suc k) factor part
-          (λ i from. sym (take-alike m (k + 1) product (λ i from. stage.product_over.degree i (omega arith)) i) ∙ stage.product_over.degree i from)));
+          mul-cong m (spread j) (from_points m k f (f j)) (f j + c) (f j + c) (stage.spread_values j (omega arith) below) refl;
+      out_degree = below-alike m (suc k) out' (sum_of (multiple own out) (multiple lack product)) step.added
+          (below-sum m (suc k) (multiple own out) (multiple lack product)
+          (below-multiple m (suc k) own out (below-more m k (suc k) out (omega arith) stage.out_degree))
+          (below-multiple m (suc k) lack product stage.degree));
     }
+  where
+    higher : IsBelow m (suc (suc k)) product'
+    higher zero from = absurd (omega arith)
+    higher (suc i) from =
+        step.multiplied (suc i) ∙ ap (λ t. t % m) (at-linear (m - f k) product i) ∙
+        zero-sum m (slice_index product i) ((m - f k) * slice_index product (suc i)) (stage.degree i (omega arith))
+        (zero-times m (m - f k) (slice_index product (suc i)) (stage.degree (suc i) (omega arith)))
 
--- its value is reached, and what the later ones want follows
-pub wants-next : (m n k : ℕ) (f v : ℕ → ℕ) (inverse factor : ℕ) (spread missing product out spread' missing' product' out' : List ℕ) → ((j : ℕ) → f j ≤ m) → k < n →
-    IsStage m n k f spread missing product out → IsStep m n k f inverse factor spread missing product out spread' missing' product' out' →
-    Wants m n k f v missing out → Wants m n (suc k) f v missing' out'
-wants-next m n k f v inverse factor spread missing product out spread' missing' product' out' low within stage step wants =
+-- its value is reached, and what the later ones lack follows, all multiplied by `own`
+pub wants-next : (m n k : ℕ) (f v : ℕ → ℕ) (own lack : ℕ) (spread missing : ℕ → ℕ) (product out : List ℕ) (spread' missing' : ℕ → ℕ) (product' out' : List ℕ) →
+    ((j : ℕ) → f j ≤ m) → k < n → IsStage m n k f spread product out → IsStep m n k f own lack spread missing product out spread' missing' product' out' →
+    Wants m n k f v missing out → Wants m n (suc k) f (λ i. own * v i) missing' out'
+wants-next m n k f v own lack spread missing product out spread' missing' product' out' low within stage step wants =
     record {
       reached = λ i below.
           elim (cases_eq i k) [
             | inl last ↦ rw last
                 (added (f k) ∙
-                reached m (univariate_value out (f k)) (slice_index missing k) (from_points m k f (f k)) inverse factor (v k) step.factor_is step.unit (wants.wanting k (omega arith) within))
+                add-cong m (own * univariate_value out (f k)) (own * univariate_value out (f k)) (lack * univariate_value product (f k)) (missing k * own) refl
+                (mul-cong m lack (missing k) (univariate_value product (f k)) own step.lack_is (at_later k (omega arith) within ∙ sym step.own_is)) ∙
+                ap (λ t. t % m) (omega arith) ∙
+                mul-cong m own own (missing k + univariate_value out (f k)) (v k) refl (wants.wanting k (omega arith) within))
             | inr other ↦
                 added (f i) ∙
-                add-cong m (univariate_value out (f i)) (univariate_value out (f i)) (factor * from_points m k f (f i)) 0 refl
-                (zero-times m factor (from_points m k f (f i)) (from_points-zero m k f i low (omega arith)) ∙ sym (zero-mod m)) ∙
-                ap (λ t. t % m) (omega arith) ∙ wants.reached i (omega arith)
+                add-cong m (own * univariate_value out (f i)) (own * v i) (lack * univariate_value product (f i)) 0
+                (mul-cong m own own (univariate_value out (f i)) (v i) refl (wants.reached i (omega arith)))
+                (zero-times m lack (univariate_value product (f i)) (stage.values (f i) ∙ from_points-zero m k f i low (omega arith)) ∙ sym (zero-mod m)) ∙
+                ap (λ t. t % m) (omega arith)
           ];
       wanting = λ j from below.
-          add-cong m (slice_index missing' j) (slice_index missing' j) (univariate_value out' (f j)) (univariate_value out (f j) + factor * slice_index spread j) refl
-          (added (f j) ∙ spread_in j (omega arith) below) ∙
-          kept_wanting m (univariate_value out (f j)) (slice_index missing j) (slice_index spread j) factor (slice_index missing' j) (v j) step.factor_low
-          (step.taken j (omega arith) below) (wants.wanting j (omega arith) below);
+          add-cong m (missing' j) (missing' j) (univariate_value out' (f j)) (own * univariate_value out (f j) + lack * spread j) refl
+          (added (f j) ∙
+          add-cong m (own * univariate_value out (f j)) (own * univariate_value out (f j)) (lack * univariate_value product (f j)) (lack * spread j) refl
+          (mul-cong m lack lack (univariate_value product (f j)) (spread j) refl (at_later j (omega arith) below))) ∙
+          ap (λ t. t % m) (omega arith) ∙
+          add-cong m (missing' j + lack * spread j) (own * missing j) (own * univariate_value out (f j)) (own * univariate_value out (f j)) (step.taken j (omega arith) below) refl ∙
+          ap (λ t. t % m) (omega arith) ∙
+          mul-cong m own own (missing j + univariate_value out (f j)) (v j) refl (wants.wanting j (omega arith) below);
     }
   where
-    added : (x : ℕ) → univariate_value out' x % m ≡ (univariate_value out x + factor * from_points m k f x) % m
-    added = added-value m k factor f product out out' stage.product_over step.added
+    added : (x : ℕ) → univariate_value out' x % m ≡ (own * univariate_value out x + lack * univariate_value product x) % m
+    added x =
+        value-alike m out' (sum_of (multiple own out) (multiple lack product)) x step.added ∙
+        ap (λ t. t % m) (value-sum (multiple own out) (multiple lack product) x ∙ omega (arith, value-multiple own out x, value-multiple lack product x))
 
-    spread_in : (j : ℕ) → k ≤ j → j < n → (univariate_value out (f j) + factor * from_points m k f (f j)) % m ≡ (univariate_value out (f j) + factor * slice_index spread j) % m
-    spread_in j from below =
-        add-cong m (univariate_value out (f j)) (univariate_value out (f j)) (factor * from_points m k f (f j)) (factor * slice_index spread j) refl
-        (mul-cong m factor factor (from_points m k f (f j)) (slice_index spread j) refl
-        (sym (mod-mod (from_points m k f (f j)) m) ∙ ap (λ t. t % m) (sym (stage.spread_values j from below))))
+    at_later : (j : ℕ) → k ≤ j → j < n → univariate_value product (f j) % m ≡ spread j % m
+    at_later j from below = stage.values (f j) ∙ sym (stage.spread_values j from below)
+
+-- what the words of two more points are made of, modulo m: `own` and `lack` are the first point's, `own'` and `lack'` the second's
+pub record IsPair (m n k : ℕ) (f : ℕ → ℕ) (own lack own' lack' : ℕ) (spread missing : ℕ → ℕ) (product out : List ℕ) (spread' missing' : ℕ → ℕ) (product' out' : List ℕ) : Type 0 where
+  pub lack_low : lack ≤ m
+  pub lack_low' : lack' ≤ m
+  pub own_is : own % m ≡ spread k % m
+  pub lack_is : lack % m ≡ missing k % m
+  pub own_is' : own' % m ≡ (spread (suc k) * (f (suc k) + (m - f k))) % m
+  pub lack_is' : lack' % m ≡ (own * missing (suc k) + (m - lack) * spread (suc k)) % m
+  pub spread_on : (j : ℕ) → suc k < j → j < n → spread' j % m ≡ (spread j * (f j + (m - f k)) * (f j + (m - f (suc k)))) % m
+  pub taken : (j : ℕ) → suc k < j → j < n →
+      missing' j % m ≡ (own * own' * missing j + own' * (m - lack) * spread j + (m - lack') * (spread j * (f j + (m - f k)))) % m
+  pub multiplied : (i : ℕ) → slice_index product' i % m ≡
+      (slice_index (0 ∷ 0 ∷ product) i + ((m - f k) + (m - f (suc k))) * slice_index (0 ∷ product) i + (m - f k) * (m - f (suc k)) * slice_index product i) % m
+  pub added : (i : ℕ) → slice_index out' i % m ≡
+      (own * own' * slice_index out i + (own' * lack + lack' * (m - f k)) * slice_index product i + lack' * slice_index (0 ∷ product) i) % m
+
+-- the entries of a product with the variable plus c
+at-root : (c : ℕ) (p : List ℕ) (i : ℕ) → slice_index (product_of (c ∷ 1 ∷ []) p) i ≡ slice_index (0 ∷ p) i + c * slice_index p i
+at-root c p zero = at-linear_first c p ∙ omega arith
+at-root c p (suc i) = at-linear c p i
+
+-- what is taken away comes back
+back : (m lack x y : ℕ) → lack ≤ m → (x + (m - lack) * y + lack * y) % m ≡ x % m
+back m lack x y low =
+    ap (λ t. t % m) (regroup (m - lack) (omega arith)) ∙
+    add-cong m x x (m * y) 0 refl (mul-cong m m 0 y y (mod_self m ∙ sym (zero-mod m)) refl ∙ ap (λ t. t % m) (omega arith)) ∙
+    ap (λ t. t % m) (omega arith)
+  where
+    regroup : (rest : ℕ) → rest + lack ≡ m → x + rest * y + lack * y ≡ x + m * y
+    regroup rest whole = omega (arith, ap (λ t. t * y) whole)
+
+-- a pair of points is one point after the other
+first-step : (m n k : ℕ) (f : ℕ → ℕ) (own lack own' lack' : ℕ) (spread missing : ℕ → ℕ) (product out : List ℕ) (spread' missing' : ℕ → ℕ) (product' out' : List ℕ) →
+    IsPair m n k f own lack own' lack' spread missing product out spread' missing' product' out' →
+    IsStep m n k f own lack spread missing product out (λ j. spread j * (f j + (m - f k))) (λ j. own * missing j + (m - lack) * spread j)
+    (product_of ((m - f k) ∷ 1 ∷ []) product) (sum_of (multiple own out) (multiple lack product))
+first-step m n k f own lack own' lack' spread missing product out spread' missing' product' out' pair =
+    record {
+      own_is = pair.own_is;
+      lack_is = pair.lack_is;
+      multiplied = λ i. refl;
+      added = λ i. refl;
+      spread_on = λ j from below. refl;
+      taken = λ j from below. back m lack (own * missing j) (spread j) pair.lack_low;
+    }
+
+-- sums of products, put in another order
+quadratic_first : (a b x : ℕ) → 0 + (a + b) * 0 + a * b * x ≡ b * (a * x)
+quadratic_first a b x = omega arith
+
+quadratic : (a b x y z : ℕ) → x + (a + b) * y + a * b * z ≡ (x + a * y) + b * (y + a * z)
+quadratic a b x y z = omega arith
+
+combined : (s t u v c x y z : ℕ) → s * t * x + (t * u + v * c) * y + v * z ≡ t * (s * x + u * y) + v * (z + c * y)
+combined s t u v c x y z = omega arith
+
+second-step : (m n k : ℕ) (f : ℕ → ℕ) (own lack own' lack' : ℕ) (spread missing : ℕ → ℕ) (product out : List ℕ) (spread' missing' : ℕ → ℕ) (product' out' : List ℕ) →
+    IsPair m n k f own lack own' lack' spread missing product out spread' missing' product' out' →
+    IsStep m n (suc k) f own' lack' (λ j. spread j * (f j + (m - f k))) (λ j. own * missing j + (m - lack) * spread j)
+    (product_of ((m - f k) ∷ 1 ∷ []) product) (sum_of (multiple own out) (multiple lack product)) spread' missing' product' out'
+second-step m n k f own lack own' lack' spread missing product out spread' missing' product' out' pair =
+    record {
+      own_is = pair.own_is';
+      lack_is = pair.lack_is';
+      multiplied = λ i. pair.multiplied i ∙ ap (λ t. t % m) (product_entry i);
+      added = λ i. pair.added i ∙ ap (λ t. t % m) (out_entry i);
+      spread_on = λ j from below. pair.spread_on j from below;
+      taken = λ j from below.
+          let between = spread j * (f j + (m - f k)) in
+          let kept = own * own' * missing j + own' * (m - lack) * spread j in
+          add-cong m (missing' j) (kept + (m - lack') * between) (lack' * between) (lack' * between) (pair.taken j from below) refl ∙
+          back m lack' kept between pair.lack_low' ∙ ap (λ t. t % m) (omega arith);
+    }
+  where
+    product_entry : (i : ℕ) → slice_index (0 ∷ 0 ∷ product) i + ((m - f k) + (m - f (suc k))) * slice_index (0 ∷ product) i + (m - f k) * (m - f (suc k)) * slice_index product i ≡
+        slice_index (product_of ((m - f (suc k)) ∷ 1 ∷ []) (product_of ((m - f k) ∷ 1 ∷ []) product)) i
+    product_entry zero =
+        quadratic_first (m - f k) (m - f (suc k)) (slice_index product 0) ∙
+        ap (λ t. (m - f (suc k)) * t) (sym (at-linear_first (m - f k) product)) ∙
+        sym (at-linear_first (m - f (suc k)) (product_of ((m - f k) ∷ 1 ∷ []) product))
+    product_entry (suc i) =
+        quadratic (m - f k) (m - f (suc k)) (slice_index (0 ∷ product) i) (slice_index product i) (slice_index product (suc i)) ∙
+        ap (λ t. t + (m - f (suc k)) * (slice_index product i + (m - f k) * slice_index product (suc i))) (sym (at-root (m - f k) product i)) ∙
+        ap (λ t. slice_index (product_of ((m - f k) ∷ 1 ∷ []) product) i + (m - f (suc k)) * t) (sym (at-linear (m - f k) product i)) ∙
+        sym (at-linear (m - f (suc k)) (product_of ((m - f k) ∷ 1 ∷ []) product) i)
+
+    out_entry : (i : ℕ) → own * own' * slice_index out i + (own' * lack + lack' * (m - f k)) * slice_index product i + lack' * slice_index (0 ∷ product) i ≡
+        slice_index (sum_of (multiple own' (sum_of (multiple own out) (multiple lack product))) (multiple lack' (product_of ((m - f k) ∷ 1 ∷ []) product))) i
+    out_entry i =
+        combined own own' lack lack' (m - f k) (slice_index out i) (slice_index product i) (slice_index (0 ∷ product) i) ∙
+        ap (λ t. own' * t + lack' * (slice_index (0 ∷ product) i + (m - f k) * slice_index product i))
+        (omega (arith, at-sum (multiple own out) (multiple lack product) i, at-multiple own out i, at-multiple lack product i)) ∙
+        ap (λ t. own' * slice_index (sum_of (multiple own out) (multiple lack product)) i + lack' * t) (sym (at-root (m - f k) product i)) ∙
+        omega (
+          arith,
+          at-sum (multiple own' (sum_of (multiple own out) (multiple lack product))) (multiple lack' (product_of ((m - f k) ∷ 1 ∷ []) product)) i,
+          at-multiple own' (sum_of (multiple own out) (multiple lack product)) i,
+          at-multiple lack' (product_of ((m - f k) ∷ 1 ∷ []) product) i,
+        )
+
+pub pair-stage : (m n k : ℕ) (f : ℕ → ℕ) (own lack own' lack' : ℕ) (spread missing : ℕ → ℕ) (product out : List ℕ) (spread' missing' : ℕ → ℕ) (product' out' : List ℕ) →
+    IsStage m n k f spread product out → IsPair m n k f own lack own' lack' spread missing product out spread' missing' product' out' →
+    IsStage m n (suc (suc k)) f spread' product' out'
+pair-stage m n k f own lack own' lack' spread missing product out spread' missing' product' out' stage pair =
+    stage-next m n (suc k) f own' lack' _ _ _ _ spread' missing' product' out'
+    (stage-next m n k f own lack spread missing product out _ _ _ _ stage (first-step m n k f own lack own' lack' spread missing product out spread' missing' product' out' pair))
+    (second-step m n k f own lack own' lack' spread missing product out spread' missing' product' out' pair)
+
+-- what is reached and wanted is the same modulo m
+pub wants-alike : (m n k : ℕ) (f v w missing : ℕ → ℕ) (out : List ℕ) → ((i : ℕ) → v i % m ≡ w i % m) → Wants m n k f v missing out → Wants m n k f w missing out
+wants-alike m n k f v w missing out same wants =
+    record {
+      reached = λ i below. wants.reached i below ∙ same i;
+      wanting = λ j from below. wants.wanting j from below ∙ same j;
+    }
+
+-- where v was multiplied by s before, it is multiplied by the product of both
+pub wants-product : (m n k : ℕ) (f v missing : ℕ → ℕ) (out : List ℕ) (r s t : ℕ) → t ≡ (r * s) % m → Wants m n k f (λ i. r * (s * v i)) missing out →
+    Wants m n k f (λ i. t * v i) missing out
+wants-product m n k f v missing out r s t is wants =
+    wants-alike m n k f (λ i. r * (s * v i)) (λ i. t * v i) missing out
+    (λ i.
+    ap (λ x. x % m) (omega arith) ∙
+    mul-cong m (r * s) t (v i) (v i) (sym (ap (λ x. x % m) is ∙ mod-mod (r * s) m)) refl)
+    wants
+
+pub pair-wants : (m n k : ℕ) (f v : ℕ → ℕ) (own lack own' lack' both : ℕ) (spread missing : ℕ → ℕ) (product out : List ℕ) (spread' missing' : ℕ → ℕ) (product' out' : List ℕ) →
+    ((j : ℕ) → f j ≤ m) → suc k < n → both ≡ (own * own') % m →
+    IsStage m n k f spread product out → IsPair m n k f own lack own' lack' spread missing product out spread' missing' product' out' →
+    Wants m n k f v missing out → Wants m n (suc (suc k)) f (λ i. both * v i) missing' out'
+pair-wants m n k f v own lack own' lack' both spread missing product out spread' missing' product' out' low within both_is stage pair wants =
+    let first = first-step m n k f own lack own' lack' spread missing product out spread' missing' product' out' pair in
+    wants-product m n (suc (suc k)) f v missing' out' own' own both (both_is ∙ ap (λ t. t % m) (omega arith))
+    (wants-next m n (suc k) f (λ i. own * v i) own' lack' _ _ _ _ spread' missing' product' out' low within
+    (stage-next m n k f own lack spread missing product out _ _ _ _ stage first)
+    (second-step m n k f own lack own' lack' spread missing product out spread' missing' product' out' pair)
+    (wants-next m n k f v own lack spread missing product out _ _ _ _ low (omega arith) stage first wants))
+
+-- what all is multiplied by is a unit
+pub pair-unit : (m n k : ℕ) (f : ℕ → ℕ) (own lack own' lack' both : ℕ) (spread missing : ℕ → ℕ) (product out : List ℕ) (spread' missing' : ℕ → ℕ) (product' out' : List ℕ) →
+    1 < m → ((j : ℕ) → f j ≤ m) → AreApart m n f → suc k < n → both ≡ (own * own') % m →
+    IsStage m n k f spread product out → IsPair m n k f own lack own' lack' spread missing product out spread' missing' product' out' → IsUnit m both
+pair-unit m n k f own lack own' lack' both spread missing product out spread' missing' product' out' large low apart within both_is stage pair =
+    let next : IsStage m n (suc k) f (λ j. spread j * (f j + (m - f k))) (product_of ((m - f k) ∷ 1 ∷ []) product) (sum_of (multiple own out) (multiple lack product)) =
+    stage-next m n k f own lack spread missing product out _ _ _ _ stage (first-step m n k f own lack own' lack' spread missing product out spread' missing' product' out' pair) in
+    unit-cong m (own * own') both (sym (ap (λ t. t % m) both_is ∙ mod-mod (own * own') m))
+    (unit-mul m own own'
+    (unit-cong m (from_points m k f (f k)) own (sym (pair.own_is ∙ stage.spread_values k (omega arith) (omega arith))) (from_points-unit m n k f large low apart (omega arith)))
+    (unit-cong m (from_points m (suc k) f (f (suc k))) own' (sym (pair.own_is' ∙ next.spread_values (suc k) (omega arith) within)) (from_points-unit m n (suc k) f large low apart within)))
+
+-- before any point
+stage-first : (m n : ℕ) (f : ℕ → ℕ) → IsStage m n 0 f (λ j. 1) (1 ∷ []) []
+stage-first m n f =
+    record {
+      degree = degree;
+      leading = refl;
+      values = λ x. ap (λ t. t % m) (omega arith);
+      spread_values = λ j from below. refl;
+      out_degree = λ i from. zero-mod m;
+    }
+  where
+    degree : IsBelow m 1 (1 ∷ [])
+    degree zero from = absurd (omega arith)
+    degree (suc i) from = zero-mod m
+
+wants-first : (m n : ℕ) (f v : ℕ → ℕ) → Wants m n 0 f v v []
+wants-first m n f v =
+    record {
+      reached = λ i below. absurd (omega arith);
+      wanting = λ j from below. ap (λ t. t % m) (omega arith);
+    }
+
+-- the words may be longer
+stage-alike : (m n k : ℕ) (f spread spread' : ℕ → ℕ) (product out product' out' : List ℕ) → ((j : ℕ) → j < n → spread' j % m ≡ spread j % m) →
+    Alike m product' product → Alike m out' out → IsStage m n k f spread product out → IsStage m n k f spread' product' out'
+stage-alike m n k f spread spread' product out product' out' spread_same product_same out_same stage =
+    record {
+      degree = below-alike m (suc k) product' product product_same stage.degree;
+      leading = product_same k ∙ stage.leading;
+      values = λ x. value-alike m product' product x product_same ∙ stage.values x;
+      spread_values = λ j from below. spread_same j below ∙ stage.spread_values j from below;
+      out_degree = below-alike m k out' out out_same stage.out_degree;
+    }
+
+wants-words : (m n k : ℕ) (f v missing missing' : ℕ → ℕ) (out out' : List ℕ) → ((j : ℕ) → j < n → missing' j % m ≡ missing j % m) → Alike m out' out →
+    Wants m n k f v missing out → Wants m n k f v missing' out'
+wants-words m n k f v missing missing' out out' missing_same out_same wants =
+    record {
+      reached = λ i below. value-alike m out' out (f i) out_same ∙ wants.reached i below;
+      wanting = λ j from below.
+          add-cong m (missing' j) (missing j) (univariate_value out' (f j)) (univariate_value out (f j)) (missing_same j below) (value-alike m out' out (f j) out_same) ∙
+          wants.wanting j from below;
+    }
+
+-- one point before the pairs
+one-step : (m n : ℕ) (f v : ℕ → ℕ) (product out : List ℕ) → 1 < m → v 0 ≤ m → Alike m product ((m - f 0) ∷ 1 ∷ []) → Alike m out (v 0 ∷ []) →
+    IsStep m n 0 f 1 (v 0) (λ j. 1) v (1 ∷ []) [] (λ j. f j + (m - f 0)) (λ j. v j + (m - v 0)) product out
+one-step m n f v product out large low product_is out_is =
+    record {
+      own_is = refl;
+      lack_is = refl;
+      multiplied = λ i. product_is i ∙ ap (λ t. t % m) (linear i);
+      added = λ i. out_is i ∙ ap (λ t. t % m) (constant i);
+      spread_on = λ j from below. ap (λ t. t % m) (omega arith);
+      taken = λ j from below.
+          let whole : v 0 + (m - v 0) ≡ m = omega arith in
+          ap (λ t. t % m) (omega arith) ∙ add-cong m (1 * v j) (1 * v j) m 0 refl (mod_self m ∙ sym (zero-mod m)) ∙ ap (λ t. t % m) (omega arith);
+    }
+  where
+    linear : (i : ℕ) → slice_index ((m - f 0) ∷ 1 ∷ []) i ≡ slice_index (product_of ((m - f 0) ∷ 1 ∷ []) (1 ∷ [])) i
+    linear zero = omega arith
+    linear (suc zero) = omega arith
+    linear (suc (suc i)) = refl
+
+    constant : (i : ℕ) → slice_index (v 0 ∷ []) i ≡ slice_index (sum_of (multiple 1 []) (multiple (v 0) (1 ∷ []))) i
+    constant zero = omega arith
+    constant (suc i) = refl
+
+-- the words at the beginning, where no point is in
+pub begin-even : (m n : ℕ) (f v spread missing : ℕ → ℕ) (product out : List ℕ) → ((j : ℕ) → j < n → spread j % m ≡ 1 % m) → ((j : ℕ) → j < n → missing j % m ≡ v j % m) →
+    Alike m product (1 ∷ []) → Alike m out [] → IsStage m n 0 f spread product out × Wants m n 0 f v missing out
+begin-even m n f v spread missing product out spread_is missing_is product_is out_is = (
+  stage-alike m n 0 f (λ j. 1) spread (1 ∷ []) [] product out spread_is product_is out_is (stage-first m n f),
+  wants-words m n 0 f v v missing [] out missing_is out_is (wants-first m n f v),
+)
+
+-- and where the first is
+pub begin-odd : (m n : ℕ) (f v spread missing : ℕ → ℕ) (product out : List ℕ) → 1 < m → 0 < n → ((j : ℕ) → f j ≤ m) → v 0 ≤ m →
+    ((j : ℕ) → j < n → spread j % m ≡ (f j + (m - f 0)) % m) → ((j : ℕ) → j < n → missing j % m ≡ (v j + (m - v 0)) % m) →
+    Alike m product ((m - f 0) ∷ 1 ∷ []) → Alike m out (v 0 ∷ []) → IsStage m n 1 f spread product out × Wants m n 1 f v missing out
+begin-odd m n f v spread missing product out large some low first_low spread_is missing_is product_is out_is =
+    let step = one-step m n f v product out large first_low product_is out_is in (
+      stage-alike m n 1 f (λ j. f j + (m - f 0)) spread product out product out spread_is (λ i. refl) (λ i. refl)
+          (stage-next m n 0 f 1 (v 0) (λ j. 1) v (1 ∷ []) [] _ (λ j. v j + (m - v 0)) product out (stage-first m n f) step),
+      wants-words m n 1 f v (λ j. v j + (m - v 0)) missing out out missing_is (λ i. refl)
+          (wants-alike m n 1 f (λ i. 1 * v i) v (λ j. v j + (m - v 0)) out (λ i. ap (λ t. t % m) (omega arith))
+          (wants-next m n 0 f v 1 (v 0) (λ j. 1) v (1 ∷ []) [] (λ j. f j + (m - f 0)) _ product out low some (stage-first m n f) step (wants-first m n f v))),
+    )
+
+-- once all points are in, and all is divided by what it was multiplied by
+pub all_in : (m n : ℕ) (f v spread missing : ℕ → ℕ) (product out made : List ℕ) (factor inverse : ℕ) → 1 < m → AreResidues m product → AreResidues m made →
+    IsStage m n n f spread product out → Wants m n n f (λ i. factor * v i) missing out → (factor * inverse) % m ≡ 1 → Alike m made (multiple inverse out) →
+    IsInterpolant m n f v made × IsProductOf m n f product
+all_in m n f v spread missing product out made factor inverse large product_residues made_residues stage wants unit scaled = (
+  record {
+    residues = made_residues;
+    degree = below-alike m n made (multiple inverse out) scaled (below-multiple m n inverse out stage.out_degree);
+    values = λ i below.
+        value-alike m made (multiple inverse out) (f i) scaled ∙
+        ap (λ t. t % m) (value-multiple inverse out (f i)) ∙
+        mul-cong m inverse inverse (univariate_value out (f i)) (factor * v i) refl (wants.reached i below) ∙
+        ap (λ t. t % m) (omega arith) ∙
+        mul-cong m (factor * inverse) 1 (v i) (v i) (unit ∙ sym (mod-eq_of_lt large)) refl ∙
+        ap (λ t. t % m) (omega arith);
+  },
+  record {
+    residues = product_residues;
+    degree = stage.degree;
+    leading = sym (mod-eq_of_lt (product_residues n)) ∙ stage.leading ∙ mod-eq_of_lt large;
+    values = stage.values;
+  },
+)
 
 -- two interpolants are the same
 pub interpolants_same : (m n : ℕ) (f v : ℕ → ℕ) (p q : List ℕ) → AreApart m n f → IsInterpolant m n f v p → IsInterpolant m n f v q → (k : ℕ) → slice_index p k ≡ slice_index q k
@@ -226,24 +444,3 @@ product-first m n f large = record {
     degree : IsBelow m 1 (1 ∷ replicate n 0)
     degree zero from = absurd (omega arith)
     degree (suc k) from = ap (λ t. t % m) (zeros-at n k) ∙ zero-mod m
-
--- before any point all products are 1
-pub stage-first : (m n long wide : ℕ) (f : ℕ → ℕ) (spread missing product out : List ℕ) → 1 < m → spread ≡ replicate n 1 → AreResidues m missing →
-    product ≡ set (replicate (suc long) 0) 0 1 → out ≡ replicate wide 0 → IsStage m n 0 f spread missing product out
-stage-first m n long wide f spread missing product out large spread_is missing_residues product_is out_is =
-    record {
-      spread_residues = λ k. rw spread_is (replicate-low m n 1 k large);
-      missing_residues = missing_residues;
-      out_residues = λ k. rw out_is (replicate-low m wide 0 k (omega arith));
-      spread_values = λ j from below. rw (spread_is, get_or-replicate {A = ℕ} n j 1 0 below) (sym (mod-eq_of_lt large));
-      product_over = rw product_is (product-first m long f large);
-      degree = λ k from. rw out_is (ap (λ t. t % m) (zeros-at wide k) ∙ zero-mod m);
-    }
-
--- and all values are wanting
-pub wants-first : (m n wide : ℕ) (f : ℕ → ℕ) (missing out : List ℕ) → out ≡ replicate wide 0 → Wants m n 0 f (slice_index missing) missing out
-wants-first m n wide f missing out out_is =
-    record {
-      reached = λ i below. absurd (omega arith);
-      wanting = λ j from below. rw out_is (ap (λ t. (slice_index missing j + t) % m) (zeros-value wide (f j)) ∙ ap (λ t. t % m) (omega arith));
-    }

@@ -1,32 +1,35 @@
-//! Newton's form: each further point adds a multiple of the product over the points before it.
+//! Newton's form, two points at a time: each further point adds a multiple of the product over the points before it.
+//!
+//! The multiple wants a division by the product of the point's differences from those before it. All is multiplied by
+//! these products in place of that, and divided by their product at the end, with one inverse.
 
-ghost use Rattle.std.specs.Prelude.{◌≡◌, ℕ, suc, ◌+◌, ◌-◌, ◌*◌, ◌%◌, ◌<◌, ◌≤◌, EachIndex, length, slice_index};
+ghost use Rattle.std.specs.Prelude.{◌≡◌, ℕ, suc, ◌+◌, ◌*◌, ◌%◌, ◌<◌, ◌≤◌, length, slice_index};
 ghost use Rattle.prime_field.specs.Modulus.{value_of};
-ghost use Rattle.prime_field.specs.Inverses.{AreInverses};
+ghost use Rattle.prime_field.specs.Residue.{IsUnit};
 ghost use Rattle.univariate.specs.Univariate.{AreApart};
 ghost use Rattle.univariate.specs.Coefficients.{AreResidues};
-ghost use Rattle.newton_interp.specs.Interpolation.{from_points, IsInterpolant, IsProductOf};
-ghost use Rattle.newton_interp.specs.Stage.{IsStage, Wants, AreSpreadInverses};
+ghost use Rattle.newton_interp.specs.Interpolation.{IsInterpolant, IsProductOf};
+ghost use Rattle.newton_interp.specs.Stage.{IsStage, Wants, AreWords};
 
+use crate::passes::{add_to_later, raise_both, take_first};
+use crate::sums::fused_two;
 use prime_field::Modulus;
-use univariate::{add_multiple, fused, multiply_by_root};
+use univariate::scale;
 
 /// Writes the polynomial of degree below the number of points with these values to `out`, and the product of the
 /// variable less each point to `product`, which has a place more at least. Any two points differ by a unit.
 ///
-/// `inverses`, `spread` and `missing` are room to work in, as long as the points; what they hold doesn't matter.
+/// `spread` and `missing` are room to work in, as long as the points; what they hold doesn't matter.
 pub fn interpolate(
     m: Modulus,
     points: &[u64],
     values: &[u64],
-    inverses: &mut [u64],
     spread: &mut [u64],
     missing: &mut [u64],
     product: &mut [u64],
     out: &mut [u64],
 )
     requires values_length { length values.now ≡ length points.now }
-    requires inverses_length { length inverses.old ≡ length points.now }
     requires spread_length { length spread.old ≡ length points.now }
     requires missing_length { length missing.old ≡ length points.now }
     requires product_length { length points.now < length product.old }
@@ -37,117 +40,135 @@ pub fn interpolate(
     ensures out { IsInterpolant (value_of m) (length points.now) (slice_index points.now) (slice_index values.now) out.new }
     ensures product { IsProductOf (value_of m) (length points.now) (slice_index points.now) product.new }
 {
-    spread_products(m, points, inverses);
-    m.inv_all(inverses, spread);
-    spread.fill(1);
-    missing.copy_from_slice(values);
-    out.fill(0);
-    product.fill(0);
-    product[0] = 1;
-    add_points(m, points, inverses, spread, missing, product, out);
+    begin(m, points, values, spread, missing, product, out);
+    let factor = add_pairs(m, points, spread, missing, product, out);
+    let inverse = m.inv(factor).unwrap();
+    scale(m, out, inverse);
 }
 
-/// Adds a point after the other, given the inverses of the products of each point less the points before it.
-fn add_points(
+/// Begins with no point where there is an even number, and with the first point where there is an odd number.
+fn begin(
     m: Modulus,
     points: &[u64],
-    inverses: &[u64],
+    values: &[u64],
     spread: &mut [u64],
     missing: &mut [u64],
     product: &mut [u64],
     out: &mut [u64],
 )
+    requires values_length { length values.now ≡ length points.now }
     requires spread_length { length spread.old ≡ length points.now }
     requires missing_length { length missing.old ≡ length points.now }
     requires product_length { length points.now < length product.old }
     requires out_length { length points.now ≤ length out.old }
-    requires inverses_length { length inverses.now ≡ length points.now }
     requires points { AreResidues (value_of m) points.now }
-    requires inverses { AreSpreadInverses (value_of m) (length points.now) (slice_index points.now) inverses.now }
-    requires stage { IsStage (value_of m) (length points.now) 0 (slice_index points.now) spread.old missing.old product.old out.old }
-    ensures stage { let n = length points.now in IsStage (value_of m) n n (slice_index points.now) spread.new missing.new product.new out.new }
-    ensures wants { let n = length points.now in (v : ℕ → ℕ) → Wants (value_of m) n 0 (slice_index points.now) v missing.old out.old →
-        Wants (value_of m) n n (slice_index points.now) v missing.new out.new }
+    requires values { AreResidues (value_of m) values.now }
+    ensures words { AreWords (value_of m) spread.new missing.new product.new out.new }
+    ensures stage { let n = length points.now in IsStage (value_of m) n (n % 2) (slice_index points.now) (slice_index spread.new) product.new out.new }
+    ensures wants { let n = length points.now in
+        Wants (value_of m) n (n % 2) (slice_index points.now) (slice_index values.now) (slice_index missing.new) out.new }
 {
-    for k in 0..points.len() {
-        add_point(m, points, k, inverses[k], spread, missing, product, out);
+    out.fill(0);
+    product.fill(0);
+    if points.len() % 2 == 0 {
+        spread.fill(1);
+        missing.copy_from_slice(values);
+        product[0] = 1;
+    } else {
+        take_first(m, points, spread);
+        take_first(m, values, missing);
+        product[0] = m.neg(points[0]);
+        product[1] = 1;
+        out[0] = values[0];
     }
 }
 
-/// Adds point `k`, given the inverse of its product of differences from the points before it.
-fn add_point(
+/// Adds the points two at a time. Answers by what the polynomial and its values are multiplied.
+fn add_pairs(
+    m: Modulus,
+    points: &[u64],
+    spread: &mut [u64],
+    missing: &mut [u64],
+    product: &mut [u64],
+    out: &mut [u64],
+) -> u64
+    requires spread_length { length spread.old ≡ length points.now }
+    requires missing_length { length missing.old ≡ length points.now }
+    requires product_length { length points.now < length product.old }
+    requires out_length { length points.now ≤ length out.old }
+    requires points { AreResidues (value_of m) points.now }
+    requires apart { AreApart (value_of m) (length points.now) (slice_index points.now) }
+    requires words { AreWords (value_of m) spread.old missing.old product.old out.old }
+    requires stage { let n = length points.now in IsStage (value_of m) n (n % 2) (slice_index points.now) (slice_index spread.old) product.old out.old }
+    ensures residue { result < value_of m }
+    ensures unit { IsUnit (value_of m) result }
+    ensures words { AreWords (value_of m) spread.new missing.new product.new out.new }
+    ensures stage { let n = length points.now in IsStage (value_of m) n n (slice_index points.now) (slice_index spread.new) product.new out.new }
+    ensures wants { let n = length points.now in (v : ℕ → ℕ) →
+        Wants (value_of m) n (n % 2) (slice_index points.now) v (slice_index missing.old) out.old →
+        Wants (value_of m) n n (slice_index points.now) (λ i. result * v i) (slice_index missing.new) out.new }
+{
+    let mut factor = 1;
+    for pair in 0..points.len() / 2 {
+        let k = points.len() % 2 + 2 * pair;
+        factor = m.mul(
+            add_pair(m, points, k, spread, missing, product, out),
+            factor,
+        );
+    }
+    factor
+}
+
+/// Adds points `k` and `k + 1`. Answers by what the polynomial and its values are multiplied.
+fn add_pair(
     m: Modulus,
     points: &[u64],
     k: usize,
-    inverse: u64,
     spread: &mut [u64],
     missing: &mut [u64],
     product: &mut [u64],
     out: &mut [u64],
-)
-    requires place { k < length points.now }
+) -> u64
+    requires place { suc k < length points.now }
     requires spread_length { length spread.old ≡ length points.now }
     requires missing_length { length missing.old ≡ length points.now }
     requires product_length { length points.now < length product.old }
     requires out_length { length points.now ≤ length out.old }
     requires points { AreResidues (value_of m) points.now }
-    requires residue { inverse < value_of m }
-    requires inverse { (from_points (value_of m) k (slice_index points.now) (slice_index points.now k) * inverse) % value_of m ≡ 1 }
-    requires stage { IsStage (value_of m) (length points.now) k (slice_index points.now) spread.old missing.old product.old out.old }
-    ensures stage { IsStage (value_of m) (length points.now) (suc k) (slice_index points.now) spread.new missing.new product.new out.new }
-    ensures wants { (v : ℕ → ℕ) → Wants (value_of m) (length points.now) k (slice_index points.now) v missing.old out.old →
-        Wants (value_of m) (length points.now) (suc k) (slice_index points.now) v missing.new out.new }
+    requires apart { AreApart (value_of m) (length points.now) (slice_index points.now) }
+    requires words { AreWords (value_of m) spread.old missing.old product.old out.old }
+    requires stage { IsStage (value_of m) (length points.now) k (slice_index points.now) (slice_index spread.old) product.old out.old }
+    ensures residue { result < value_of m }
+    ensures unit { IsUnit (value_of m) result }
+    ensures words { AreWords (value_of m) spread.new missing.new product.new out.new }
+    ensures stage { IsStage (value_of m) (length points.now) (suc (suc k)) (slice_index points.now) (slice_index spread.new) product.new out.new }
+    ensures wants { (v : ℕ → ℕ) → Wants (value_of m) (length points.now) k (slice_index points.now) v (slice_index missing.old) out.old →
+        Wants (value_of m) (length points.now) (suc (suc k)) (slice_index points.now) (λ i. result * v i) (slice_index missing.new) out.new }
 {
-    let factor = m.mul(missing[k], inverse);
-    add_multiple(m, out, &product[..k + 1], factor, 0);
-    multiply_by_root(m, product, k, points[k]);
-    take_away(m, missing, spread, k, factor);
-    multiply_differences(m, spread, points, k);
-}
-
-/// Writes to each place the product of its point less each point before it.
-fn spread_products(m: Modulus, points: &[u64], products: &mut [u64])
-    requires lengths { length products.old ≡ length points.now }
-    requires points { AreResidues (value_of m) points.now }
-    ensures { EachIndex points.now (λ j.
-        slice_index products.new j ≡ from_points (value_of m) j (slice_index points.now) (slice_index points.now j) % value_of m) }
-{
-    products.fill(1);
-    for k in 0..points.len() {
-        multiply_differences(m, products, points, k);
-    }
-}
-
-/// Multiplies the entry of each place after `k` by its point less point `k`.
-fn multiply_differences(m: Modulus, products: &mut [u64], points: &[u64], k: usize)
-    requires lengths { length products.old ≡ length points.now }
-    requires place { k < length points.now }
-    requires products { AreResidues (value_of m) products.old }
-    requires points { AreResidues (value_of m) points.now }
-    ensures residues { AreResidues (value_of m) products.new }
-    ensures earlier { (j : ℕ) → j < suc k → slice_index products.new j ≡ slice_index products.old j }
-    ensures later { (j : ℕ) → k < j → j < length points.now → slice_index products.new j ≡
-        (slice_index products.old j * (slice_index points.now j + (value_of m - slice_index points.now k))) % value_of m }
-{
-    let root = points[k];
-    for j in k + 1..points.len() {
-        products[j] = m.mul(products[j], m.sub(points[j], root));
-    }
-}
-
-/// Takes `factor` times the entries of `spread` away from the entries after place `k`.
-fn take_away(m: Modulus, missing: &mut [u64], spread: &[u64], k: usize, factor: u64)
-    requires lengths { length missing.old ≡ length spread.now }
-    requires place { k < length spread.now }
-    requires missing { AreResidues (value_of m) missing.old }
-    requires spread { AreResidues (value_of m) spread.now }
-    requires factor { factor < value_of m }
-    ensures residues { AreResidues (value_of m) missing.new }
-    ensures later { (j : ℕ) → k < j → j < length spread.now → slice_index missing.new j ≡
-        (slice_index missing.old j + (value_of m - factor) * slice_index spread.now j) % value_of m }
-{
-    let opposite = m.neg(factor);
-    for j in k + 1..spread.len() {
-        missing[j] = fused(m, missing[j], opposite, spread[j]);
-    }
+    let here = m.neg(points[k]);
+    let next = m.neg(points[k + 1]);
+    let own = spread[k];
+    let wanting = missing[k];
+    let opposite = m.neg(wanting);
+    let next_own = m.mul(spread[k + 1], m.sub(points[k + 1], points[k]));
+    let next_wanting = fused_two(m, 0, own, missing[k + 1], opposite, spread[k + 1]);
+    let both = m.mul(own, next_own);
+    let low = fused_two(m, 0, next_own, wanting, next_wanting, here);
+    let first = m.mul(next_own, opposite);
+    let second = m.neg(next_wanting);
+    add_to_later(m, points, k, both, first, second, spread, missing);
+    let linear = m.add(here, next);
+    let constant = m.mul(here, next);
+    raise_both(
+        m,
+        k,
+        linear,
+        constant,
+        both,
+        low,
+        next_wanting,
+        product,
+        out,
+    );
+    both
 }

@@ -8,10 +8,13 @@ ghost use Rattle.univariate.specs.Coefficients.{AreResidues};
 ghost use Rattle.newton_interp.specs.Interpolation.{IsInterpolant};
 
 mod form;
+mod passes;
+mod sums;
 
 pub use form::interpolate;
 use prime_field::Modulus;
 use std::alloc::Global;
+pub use sums::fused_two;
 
 /// Memory ran out.
 pub type NoMemory = std::alloc::AllocError;
@@ -49,11 +52,10 @@ pub fn newton_over(m: Modulus, points: &[u64], values: &[u64], work: &mut [u64],
     ensures { IsInterpolant (value_of m) (length points.now) (slice_index points.now) (slice_index values.now) out.new }
 {
     let count = points.len();
-    let (inverses, rest) = work.split_at_mut(count);
-    let (spread, rest) = rest.split_at_mut(count);
+    let (spread, rest) = work.split_at_mut(count);
     let (missing, rest) = rest.split_at_mut(count);
     let (product, _) = rest.split_at_mut(count + 1);
-    interpolate(m, points, values, inverses, spread, missing, product, out);
+    interpolate(m, points, values, spread, missing, product, out);
 }
 
 /// Two polynomials that interpolate the same values are the same, coefficient by coefficient. It holds at every modulus.

@@ -1,13 +1,14 @@
 -- What one multiple less, and all of them, do to a remainder and its factor.
-use Rattle.std.proofs.Common.{◌≡◌, ℕ, suc, ◌+◌, ◌-◌, ◌*◌, ◌%◌, ◌<◌, ◌≤◌, List, [], ◌∷◌, length, slice_index, refl, sym, ◌∙◌, ap, arith, inl, inr, mul-one}
+use Rattle.std.proofs.Common.{◌≡◌, ℕ, suc, ◌+◌, ◌-◌, ◌*◌, ◌%◌, ◌<◌, ◌≤◌, List, [], ◌∷◌, length, slice_index, refl, sym, ◌∙◌, ap, arith, inl, inr, mul-one, get_or-set_other, get_or-set_same}
+use Rattle.std.proofs.Math.ListN.{set}
 use Rattle.std.proofs.Math.Nat.{zero-mod, mod-mod, mod-eq_of_lt}
-use Rattle.std.proofs.lemmas.Bool.{cases_eq}
+use Rattle.std.proofs.lemmas.Bool.{cases_eq, cases_lt}
 use Rattle.prime_field.specs.Residue.{IsUnit}
 use Rattle.prime_field.proofs.Residues.{add-cong, mul-cong, cancel}
 use Rattle.prime_field.proofs.Units.{unit-cong, unit-mul}
 use Rattle.univariate.specs.Univariate.{univariate_value}
 use Rattle.univariate.specs.Coefficients.{sum_of, multiple, raised, IsBelow, Alike}
-use Rattle.univariate.proofs.Coefficients.{at-sum, at-multiple, at-raised, value-sum, value-multiple, value-raised, value-alike, same_of_difference, difference_of_same}
+use Rattle.univariate.proofs.Coefficients.{at-beyond, at-sum, at-multiple, at-raised, value-sum, value-multiple, value-raised, value-alike, same_of_difference, difference_of_same}
 use Rattle.univariate.proofs.Counting.{zero-times}
 use Rattle.univariate.proofs.Places.{at-raised_beyond}
 use Rattle.thiele_interp.specs.Pairs.{AgreesAt}
@@ -93,3 +94,50 @@ agrees-added m c j n t v above rest earlier factor above' earlier' above_alike e
     (mul-cong m c c (y * univariate_value rest x) (y * (v i * f)) refl (mul-cong m y y (univariate_value rest x) (v i * f) refl (agrees i low))) ∙
     ap (λ s. s % m) (omega arith) ∙
     mul-cong m (v i) (v i) (e + c * (y * f)) (univariate_value earlier' x) refl (sym (value-added m c j earlier factor earlier' x earlier_alike))
+
+-- an entry once a multiple moved up by a place was taken away, and what makes it 0
+pub near-entry : (m high low next inverse last : ℕ) (above rest : List ℕ) → 0 < last → next ≡ (slice_index above last + high * slice_index rest (last - 1)) % m →
+    (low + next * inverse) % m ≡ 0 → (low + slice_index (sum_of above (multiple high (raised 1 rest))) (last + 0) * inverse) % m ≡ 0
+near-entry m high low next inverse last above rest some is opposite =
+    let place : last + 0 ≡ last = omega arith in
+    let entry : slice_index (sum_of above (multiple high (raised 1 rest))) last ≡ slice_index above last + high * slice_index rest (last - 1) =
+    at-sum above (multiple high (raised 1 rest)) last ∙
+    ap (λ t. slice_index above last + t) (at-multiple high (raised 1 rest) last ∙ ap (λ t. high * t) (at-raised 1 rest last (last - 1) (omega arith))) in
+    ap (λ i. (low + slice_index (sum_of above (multiple high (raised 1 rest))) i * inverse) % m) place ∙
+    add-cong m low low (slice_index (sum_of above (multiple high (raised 1 rest))) last * inverse) (next * inverse) refl
+    (mul-cong m (slice_index (sum_of above (multiple high (raised 1 rest))) last) next inverse inverse
+    (ap (λ t. t % m) entry ∙ sym (ap (λ t. t % m) is ∙ mod-mod (slice_index above last + high * slice_index rest (last - 1)) m)) refl) ∙
+    opposite
+
+-- entries to which two neighbouring multiples were added, and nothing past them
+pub two-added : (m low high last : ℕ) (p q made : List ℕ) → length q < length made →
+    last % m ≡ (slice_index p (length q) + high * slice_index (0 ∷ q) (length q)) % m →
+    ((i : ℕ) → i < length q → slice_index made i % m ≡ (slice_index p i + high * slice_index (0 ∷ q) i + low * slice_index q i) % m) →
+    ((i : ℕ) → length q ≤ i → slice_index made i ≡ slice_index p i) →
+    Alike m (set made (length q) last) (sum_of (sum_of p (multiple high (raised 1 q))) (multiple low (raised 0 q)))
+two-added m low high last p q made room last_is done rest i =
+    elim (cases_eq i (length q)) [
+      | inl same ↦
+          let none : slice_index q (length q) ≡ 0 = at-beyond q (length q) (omega arith) in
+          rw (same, get_or-set_same)
+          (last_is ∙
+          ap (λ t. t % m) (omega arith ∙ ap (λ t. slice_index p (length q) + high * slice_index (0 ∷ q) (length q) + low * t) (sym none)) ∙
+          ap (λ t. t % m) (sym (whole (length q))))
+      | inr other ↦
+          rw get_or-set_other
+          (elim (cases_lt i (length q)) [
+            | inl within ↦ done i within ∙ ap (λ t. t % m) (sym (whole i))
+            | inr past ↦
+                let none : slice_index q i ≡ 0 = at-beyond q i past in
+                let nothing : slice_index (0 ∷ q) i ≡ 0 = at-beyond (0 ∷ q) i (omega arith) in
+                ap (λ t. t % m)
+                (rest i past ∙ omega arith ∙
+                ap (λ t. slice_index p i + high * t + low * 0) (sym nothing) ∙
+                ap (λ t. slice_index p i + high * slice_index (0 ∷ q) i + low * t) (sym none) ∙ sym (whole i))
+          ])
+    ]
+  where
+    whole : (i : ℕ) → slice_index (sum_of (sum_of p (multiple high (raised 1 q))) (multiple low (raised 0 q))) i ≡ slice_index p i + high * slice_index (0 ∷ q) i + low * slice_index q i
+    whole i =
+        at-sum (sum_of p (multiple high (raised 1 q))) (multiple low (raised 0 q)) i ∙
+        omega (arith, at-sum p (multiple high (raised 1 q)) i, at-multiple high (raised 1 q) i, at-multiple low (raised 0 q) i)

@@ -1,6 +1,6 @@
 -- Pairs of polynomials in one variable that agree with samples; point i is t i, its sample v i.
-use Rattle.std.specs.Prelude.{◌≡◌, ◌≢◌, ℕ, suc, ◌-◌, ◌*◌, ◌%◌, ◌<◌, List, length, slice_index}
-use Rattle.univariate.specs.Univariate.{univariate_value, AllVanish}
+use Rattle.std.specs.Prelude.{◌≡◌, ℕ, suc, ◌-◌, ◌*◌, ◌%◌, ◌<◌, List, length, slice_index}
+use Rattle.univariate.specs.Univariate.{univariate_value, AllVanish, IsTrimmed}
 use Rattle.univariate.specs.Coefficients.{product_of, IsBelow, Alike, AreResidues}
 
 -- modulo m the numerator has at each of the first n points the value of the denominator times the sample
@@ -28,6 +28,6 @@ pub record IsLeastPair (m n : ℕ) (t v : ℕ → ℕ) (a b : ℕ) (num den : Li
 pub record IsReducedPair (m : ℕ) (num den : List ℕ) : Type 0 where
   pub num_residues : AreResidues m num
   pub den_residues : AreResidues m den
-  pub num_last : 0 < length num → slice_index num (length num - 1) ≢ 0
+  pub num_last : IsTrimmed num
   pub den_some : 0 < length den
   pub den_last : slice_index den (length den - 1) ≡ 1

@@ -1,5 +1,5 @@
 -- Two neighbours among Euclid's remainders, with the factors that belong to them.
-use Rattle.std.specs.Prelude.{◌≡◌, ℕ, suc, ◌+◌, List, slice_index}
+use Rattle.std.specs.Prelude.{◌≡◌, ℕ, suc, ◌+◌, ◌-◌, List, length, slice_index}
 use Rattle.prime_field.specs.Residue.{IsUnit}
 use Rattle.univariate.specs.Coefficients.{IsBelow, AreResidues}
 use Rattle.thiele_interp.specs.Pairs.{AgreesAt}
@@ -22,3 +22,13 @@ pub record AreRemainders (m n e d : ℕ) (above rest earlier factor : List ℕ) 
 -- each remainder agrees, with its factor as denominator
 abbrev pub BothAgree : ℕ → ℕ → (ℕ → ℕ) → (ℕ → ℕ) → List ℕ → List ℕ → List ℕ → List ℕ → Type 0
 BothAgree m n t v above rest earlier factor = AgreesAt m n t v above earlier × AgreesAt m n t v rest factor
+
+-- multiples of `rest` and of its factor were taken away from `above` and `earlier`: what is left is below `rest`, and its
+-- factor, which has the degree of `factor` and `gap` more, agrees with it where the others did
+pub record IsDividedBy (m gap : ℕ) (above rest earlier factor above_left factor_left : List ℕ) : Type 0 where
+  pub above_residues : AreResidues m above_left
+  pub earlier_residues : AreResidues m factor_left
+  pub above_below : IsBelow m (length rest - 1) above_left
+  pub earlier_below : IsBelow m (length factor + gap) factor_left
+  pub earlier_unit : IsUnit m (slice_index factor_left (length factor - 1 + gap))
+  pub agree : (n : ℕ) (t v : ℕ → ℕ) → AgreesAt m n t v rest factor → AgreesAt m n t v above earlier → AgreesAt m n t v above_left factor_left

@@ -7,10 +7,11 @@ ghost use Rattle.prime_field.specs.Modulus.{value_of};
 ghost use Rattle.prime_field.specs.Residue.{IsUnit, IsPrime};
 ghost use Rattle.univariate.specs.Coefficients.{sum_of, multiple, raised, IsBelow, Alike, AreResidues};
 ghost use Rattle.thiele_interp.specs.Pairs.{AgreesAt};
-ghost use Rattle.thiele_interp.specs.Remainders.{AreRemainders, BothAgree};
+ghost use Rattle.thiele_interp.specs.Remainders.{AreRemainders, BothAgree, IsDividedBy};
 
+use newton_interp::fused_two;
 use prime_field::Modulus;
-use univariate::{add_multiple, trimmed_length};
+use univariate::{add_multiple, fused, trimmed_length};
 
 /// Divides down to the first remainder of degree `least` at most, which is left in `rest` with its factor in `factor`,
 /// and answers the degree of the remainder before it, which is left in `above` with its factor in `earlier`.
@@ -72,6 +73,72 @@ fn divide(
 )
     requires above_room { length rest.now + gap ≤ length above.old }
     requires earlier_room { length factor.now + gap ≤ length earlier.old }
+    requires rest_some { 1 < length rest.now }
+    requires factor_some { 0 < length factor.now }
+    requires above_residues { AreResidues (value_of m) above.old }
+    requires rest_residues { AreResidues (value_of m) rest.now }
+    requires earlier_residues { AreResidues (value_of m) earlier.old }
+    requires factor_residues { AreResidues (value_of m) factor.now }
+    requires residue { inverse < value_of m }
+    requires inverse { (slice_index rest.now (length rest.now - 1) * inverse) % value_of m ≡ 1 }
+    requires above_below { IsBelow (value_of m) (length rest.now + gap) above.old }
+    requires above_unit { IsUnit (value_of m) (slice_index above.old (length rest.now - 1 + gap)) }
+    requires earlier_below { IsBelow (value_of m) (length factor.now - 1 + gap) earlier.old }
+    requires factor_unit { IsUnit (value_of m) (slice_index factor.now (length factor.now - 1)) }
+    ensures { IsDividedBy (value_of m) gap above.old rest.now earlier.old factor.now above.new earlier.new }
+{
+    if gap == 1 {
+        divide_near(m, above, rest, earlier, factor, inverse)
+    } else {
+        divide_far(m, above, rest, earlier, factor, gap, inverse)
+    }
+}
+
+/// The same where the degree of `above` exceeds that of `rest` by 1, with both multiples in one pass.
+fn divide_near(
+    m: Modulus,
+    above: &mut [u64],
+    rest: &[u64],
+    earlier: &mut [u64],
+    factor: &[u64],
+    inverse: u64,
+)
+    requires above_room { length rest.now < length above.old }
+    requires earlier_room { length factor.now < length earlier.old }
+    requires rest_some { 1 < length rest.now }
+    requires factor_some { 0 < length factor.now }
+    requires above_residues { AreResidues (value_of m) above.old }
+    requires rest_residues { AreResidues (value_of m) rest.now }
+    requires earlier_residues { AreResidues (value_of m) earlier.old }
+    requires factor_residues { AreResidues (value_of m) factor.now }
+    requires residue { inverse < value_of m }
+    requires inverse { (slice_index rest.now (length rest.now - 1) * inverse) % value_of m ≡ 1 }
+    requires above_below { IsBelow (value_of m) (length rest.now + 1) above.old }
+    requires above_unit { IsUnit (value_of m) (slice_index above.old (length rest.now - 1 + 1)) }
+    requires earlier_below { IsBelow (value_of m) (length factor.now - 1 + 1) earlier.old }
+    requires factor_unit { IsUnit (value_of m) (slice_index factor.now (length factor.now - 1)) }
+    ensures { IsDividedBy (value_of m) 1 above.old rest.now earlier.old factor.now above.new earlier.new }
+{
+    let last = rest.len() - 1;
+    let high = opposite_quotient(m, above[last + 1], inverse);
+    let next = fused(m, above[last], high, rest[last - 1]);
+    let low = opposite_quotient(m, next, inverse);
+    add_two_multiples(m, above, rest, low, high);
+    add_two_multiples(m, earlier, factor, low, high);
+}
+
+/// The same whatever the difference of the degrees, multiple by multiple.
+fn divide_far(
+    m: Modulus,
+    above: &mut [u64],
+    rest: &[u64],
+    earlier: &mut [u64],
+    factor: &[u64],
+    gap: usize,
+    inverse: u64,
+)
+    requires above_room { length rest.now + gap ≤ length above.old }
+    requires earlier_room { length factor.now + gap ≤ length earlier.old }
     requires rest_some { 0 < length rest.now }
     requires factor_some { 0 < length factor.now }
     requires above_residues { AreResidues (value_of m) above.old }
@@ -84,13 +151,7 @@ fn divide(
     requires above_unit { IsUnit (value_of m) (slice_index above.old (length rest.now - 1 + gap)) }
     requires earlier_below { IsBelow (value_of m) (length factor.now - 1 + gap) earlier.old }
     requires factor_unit { IsUnit (value_of m) (slice_index factor.now (length factor.now - 1)) }
-    ensures above_residues { AreResidues (value_of m) above.new }
-    ensures earlier_residues { AreResidues (value_of m) earlier.new }
-    ensures above_below { IsBelow (value_of m) (length rest.now - 1) above.new }
-    ensures earlier_below { IsBelow (value_of m) (length factor.now + gap) earlier.new }
-    ensures earlier_unit { IsUnit (value_of m) (slice_index earlier.new (length factor.now - 1 + gap)) }
-    ensures agree { (n : ℕ) (t v : ℕ → ℕ) → AgreesAt (value_of m) n t v rest.now factor.now → AgreesAt (value_of m) n t v above.old earlier.old →
-        AgreesAt (value_of m) n t v above.new earlier.new }
+    ensures { IsDividedBy (value_of m) gap above.old rest.now earlier.old factor.now above.new earlier.new }
 {
     take_multiple(m, above, rest, earlier, factor, gap, inverse);
     for shift in (0..gap).rev() {
@@ -123,8 +184,38 @@ fn take_multiple(
     ensures above { Alike (value_of m) above.new (sum_of above.old (multiple result (raised shift rest.now))) }
     ensures earlier { Alike (value_of m) earlier.new (sum_of earlier.old (multiple result (raised shift factor.now))) }
 {
-    let opposite = m.neg(m.mul(above[rest.len() - 1 + shift], inverse));
+    let opposite = opposite_quotient(m, above[rest.len() - 1 + shift], inverse);
     add_multiple(m, above, rest, opposite, shift);
     add_multiple(m, earlier, factor, opposite, shift);
     opposite
+}
+
+/// The factor of a multiple that makes an entry 0, given the inverse of the entry of which it is a multiple.
+fn opposite_quotient(m: Modulus, entry: u64, inverse: u64) -> u64
+    requires entry { entry < value_of m }
+    requires inverse { inverse < value_of m }
+    ensures opposite { (result + entry * inverse) % value_of m ≡ 0 }
+    ensures residue { result < value_of m }
+{
+    m.neg(m.mul(entry, inverse))
+}
+
+/// Adds `high` times the source, moved up by a place, and `low` times the source to the target.
+fn add_two_multiples(m: Modulus, target: &mut [u64], source: &[u64], low: u64, high: u64)
+    requires room { length source.now < length target.old }
+    requires target_residues { AreResidues (value_of m) target.old }
+    requires source_residues { AreResidues (value_of m) source.now }
+    requires low { low < value_of m }
+    requires high { high < value_of m }
+    ensures sum { Alike (value_of m) target.new
+        (sum_of (sum_of target.old (multiple high (raised 1 source.now))) (multiple low (raised 0 source.now))) }
+    ensures residues { AreResidues (value_of m) target.new }
+{
+    let mut below = 0;
+    for (k, coefficient) in source.iter().enumerate() {
+        target[k] = fused_two(m, target[k], high, below, low, *coefficient);
+        below = *coefficient;
+    }
+    let end = source.len();
+    target[end] = fused(m, target[end], high, below);
 }

@@ -90,10 +90,9 @@ pub fn least_pair_over(
     let (above, others) = others.split_at_mut(count + 1);
     let (earlier, others) = others.split_at_mut(count + 1);
     let (factor, others) = others.split_at_mut(count + 1);
-    let (inverses, others) = others.split_at_mut(count);
     let (spread, others) = others.split_at_mut(count);
     let (missing, _) = others.split_at_mut(count);
-    interpolate(m, points, values, inverses, spread, missing, above, rest);
+    interpolate(m, points, values, spread, missing, above, rest);
     let found = pair_of(m, points, values, a, b, above, rest, earlier, factor);
     found
 }

@@ -3,7 +3,7 @@ use Rattle.prime_field.specs.Modulus.{value_of}
 use Rattle.prime_field.specs.Residue.{IsUnit}
 use Rattle.univariate.specs.Coefficients.{IsBelow, AreResidues}
 use Rattle.thiele_interp.specs.Pairs.{AgreesAt}
-use Rattle.thiele_interp.proofs.euclid.divide.Given as goal
+use Rattle.thiele_interp.proofs.euclid.divide_far.Given as goal
 
 abbrev pub invariant-loop-shift : goal.invariant-loop-shift
 invariant-loop-shift l = record {
