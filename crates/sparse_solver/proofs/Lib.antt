@@ -1,4 +1,9 @@
 pub mod Absorbed
+pub mod Bridge
+pub mod Leads
 pub mod Orders
+pub mod PackedRows
 pub mod Plans
 pub mod Systems
+pub mod Told
+pub mod Turns

@@ -1,2 +1,5 @@
 pub mod Order
+pub mod Packed
 pub mod Plan
+pub mod Steps
+pub mod Told

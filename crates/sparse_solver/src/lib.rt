@@ -6,8 +6,14 @@
 #![tactic(auto)]
 
 mod absorption;
+mod learned;
 mod order;
+mod packed;
 mod plan;
+mod replay;
+mod search;
+mod steps;
+mod vectors;
 
 pub use plan::{NoMemory, SparsePlan};
 

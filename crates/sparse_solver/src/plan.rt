@@ -12,6 +12,9 @@ ghost use Rattle.sparse_solver.specs.Plan.{IsLearned, set_in, set_of};
 
 use crate::absorption::{absorb_rows, learn_rows, own_set};
 use crate::order::{first_order, starts_of};
+use crate::replay::replay;
+use crate::search::learn_steps;
+use crate::steps::Steps;
 use elim_core::{Elim, SparseRow};
 use prime_field::Modulus;
 use sqlite_items::Items;
@@ -31,6 +34,7 @@ pub struct SparsePlan {
     starts: Vec<usize>,
     order: Vec<usize>,
     learned: Option<Items<u32>>,
+    steps: Option<Steps>,
 }
 
 impl Model for SparsePlan {
@@ -41,7 +45,7 @@ impl Model for SparsePlan {
 
     ghost view = { λ plan. record { unknowns = plan.unknowns; rows = plan.rows; learned = plan.learned } };
 
-    ghost invariant = { λ plan. IsPlanned plan.unknowns plan.rows plan.starts.items plan.order.items plan.learned };
+    ghost invariant = { λ plan. IsPlanned plan.unknowns plan.rows plan.starts.items plan.order.items plan.learned plan.steps };
 }
 
 /// The set that was learned, or else the empty one.
@@ -76,6 +80,7 @@ impl SparsePlan {
             starts,
             order,
             learned: None,
+            steps: None,
         })
     }
 
@@ -112,13 +117,26 @@ impl SparsePlan {
             words,
         )?;
         let Some((elimination, order)) = kept else {
+            self.steps = None;
             self.learned = None;
             return Ok(None);
         };
         let set = own_set(self.alloc, unknowns, &elimination, words)?;
         let learned = Items::from_slice(self.alloc, set.as_slice())?;
+        let first = first_order(self.alloc, self.rows.as_slice())?;
+        let steps = learn_steps(
+            self.alloc,
+            m,
+            unknowns,
+            self.rows.as_slice(),
+            self.starts.as_slice(),
+            first.as_slice(),
+            values,
+            learned.as_slice(),
+        )?;
         self.order = order;
         self.learned = Some(learned);
+        self.steps = steps;
         Ok(Some(set))
     }
 
@@ -126,7 +144,51 @@ impl SparsePlan {
     /// the learned ones and then the constant. It answers false where the learned unknowns don't tell the others.
     ///
     /// Each row counts, also one that followed from others where the plan learned.
+    ///
+    /// It replays what was learned, and eliminates all rows anew where that does not lead to an answer.
     pub fn solve(
+        &self,
+        m: Modulus,
+        values: &[u64],
+        want: &[u32],
+        work: &mut [u64],
+        out: &mut [u64],
+    ) -> bool
+        requires learned { IsLearned self.now }
+        requires entries { length values.now ≡ entries_of self.now.rows }
+        requires residues { All (λ x. x < value_of m) values.now }
+        requires want { AreUnknowns self.now.unknowns want.now }
+        requires words { (self.now.unknowns + 4) * (self.now.unknowns + 2) ≤ length work.old }
+        requires room { length out.old ≡ length want.now * (length (set_of self.now) + 1) }
+        ensures solved { OnTrue result (IsSolved (value_of m) self.now.unknowns
+            (rows_with self.now.unknowns self.now.rows values.now) (set_of self.now) want.now out.new) }
+        ensures undefined { OnFalse result (IsPrime (value_of m) → HasSolverValue (value_of m) self.now.unknowns
+            (rows_with self.now.unknowns self.now.rows values.now) (set_of self.now) → ⊥) }
+        ensures residues { OnTrue result (All (λ x. x < value_of m) out.new) }
+    {
+        if let Some(steps) = &self.steps {
+            let unknowns = self.unknowns as usize;
+            let rows = self.rows.as_slice();
+            if replay(
+                m,
+                unknowns,
+                rows,
+                &self.starts,
+                values,
+                steps,
+                learned_set(&self.learned),
+                want,
+                work,
+                out,
+            ) {
+                return true;
+            }
+        }
+        self.solve_anew(m, values, want, work, out)
+    }
+
+    /// The same as [`SparsePlan::solve`], by eliminating all rows anew.
+    pub(crate) fn solve_anew(
         &self,
         m: Modulus,
         values: &[u64],

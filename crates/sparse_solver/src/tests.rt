@@ -1,7 +1,9 @@
 //! Systems whose solutions are known.
 
-ghost use Rattle.std.specs.Prelude.{◌≡◌, ◌+◌, ◌<◌, ◌≤◌, IfOk};
+ghost use Rattle.std.specs.Prelude.{◌≡◌, ◌+◌, ◌<◌, ◌≤◌, All, IfOk, length};
+ghost use Rattle.prime_field.specs.Modulus.{value_of};
 ghost use Rattle.elim_core.specs.Sparse.{entries_of};
+ghost use Rattle.sparse_solver.specs.Plan.{IsLearned, set_of};
 
 use super::*;
 use elim_core::SparseRow;
@@ -78,5 +80,66 @@ fn the_last_unknown_of_a_chain_tells_the_others(rt: HostRuntime) -> Result<(), F
     let mut out = [7; 4];
     assert!(rt; plan.solve(m, &[1, 2, 1, 3], &[1, 2], &mut work, &mut out));
     assert_eq!(rt; out, [6, 0, 2305843009213693948, 0]);
+    Ok(())
+}
+
+/// A plan for four rows over three unknowns, of which the last one has a right side.
+fn four_rows(alloc: Global) -> Result<SparsePlan, Fail>
+    ensures unknowns { IfOk result (λ plan. plan.unknowns ≡ 3) }
+    ensures entries { IfOk result (λ plan. entries_of plan.rows ≡ 8) }
+{
+    let mut rows = Items::new(alloc);
+    rows.push(SparseRow {
+        columns: Items::from_slice(alloc, &[1, 2])?,
+    })?;
+    rows.push(SparseRow {
+        columns: Items::from_slice(alloc, &[2, 3])?,
+    })?;
+    rows.push(SparseRow {
+        columns: Items::from_slice(alloc, &[1, 3])?,
+    })?;
+    rows.push(SparseRow {
+        columns: Items::from_slice(alloc, &[0, 3])?,
+    })?;
+    Ok(SparsePlan::new(alloc, 3, rows)?)
+}
+
+/// What both ways to solve answer, if they answer the same.
+fn both(plan: &SparsePlan, values: &[u64]) -> Option<bool>
+    requires learned { IsLearned plan.now }
+    requires unknowns { plan.now.unknowns ≡ 3 }
+    requires one { length (set_of plan.now) ≡ 1 }
+    requires entries { length values.now ≡ entries_of plan.now.rows }
+    requires residues { All (λ x. x < value_of Modulus.First) values.now }
+{
+    let m = Modulus::first();
+    let mut work = [7; 35];
+    let mut replayed = [7; 6];
+    let mut anew = [7; 6];
+    let want = [1, 2, 3];
+    let is_replayed = plan.solve(m, values, &want, &mut work, &mut replayed);
+    let is_anew = plan.solve_anew(m, values, &want, &mut work, &mut anew);
+    if is_replayed != is_anew || is_anew && replayed != anew {
+        return None;
+    }
+    Some(is_anew)
+}
+
+#[test]
+fn both_ways_to_solve_agree(rt: HostRuntime) -> Result<(), Fail> {
+    let mut plan = four_rows(rt.alloc())?;
+    let m = Modulus::first();
+    let last = 2305843009213693950;
+    let Some(set) = plan.learn(m, &[1, 1, 1, 1, 1, last, 0, 0])? else {
+        return Err(Fail::from("nothing is learned"));
+    };
+    if set.len() != 1 {
+        return Err(Fail::from("another set"));
+    }
+    assert_eq!(rt; both(&plan, &[2, 1, 1, 2, 1, last, 0, 0]), Some(true));
+    assert_eq!(rt; both(&plan, &[0, 0, 1, 1, 1, last, 0, 0]), Some(true));
+    assert_eq!(rt; both(&plan, &[1, 1, 0, 1, 1, last, 0, 0]), Some(false));
+    assert_eq!(rt; both(&plan, &[1, 1, 1, 1, 1, 1, 0, 0]), Some(false));
+    assert_eq!(rt; both(&plan, &[1, 1, 1, 1, 1, last, 1, 0]), Some(false));
     Ok(())
 }

@@ -5,7 +5,7 @@ use Rattle.prime_field.proofs.Moduli.{value_of-large}
 use Rattle.elim_core.specs.Solver.{AreUnknowns}
 use Rattle.sparse_solver.specs.Plan.{Plan, set_of}
 use Rattle.sparse_solver.proofs.Plans.{kept_plan, residues_plan, solved_plan, undefined_plan, untold_plan}
-use Rattle.sparse_solver.proofs.plan.SparsePlan.solve.Goals as goal
+use Rattle.sparse_solver.proofs.plan.SparsePlan.solve_anew.Goals as goal
 
 pub returns-in-Some-clause-solved : goal.returns-in-Some-clause-solved
 returns-in-Some-clause-solved c =
