@@ -1,4 +1,6 @@
 pub mod Ends
+pub mod ExampleFile
+pub mod ExampleRun
 pub mod FunctionLaws
 pub mod JobLaws
 pub mod JoinLaws

@@ -1,4 +1,5 @@
 pub mod Answer
+pub mod Example
 pub mod Jobs
 pub mod Lessons
 pub mod Outside

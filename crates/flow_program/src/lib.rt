@@ -2,6 +2,7 @@
 #![tactic(auto)]
 
 mod arguments;
+mod example;
 mod functions;
 mod laws;
 mod lessons;
@@ -15,6 +16,7 @@ mod top;
 mod words;
 
 pub use arguments::words_of;
+pub use example::worked_example;
 pub use laws::{learned_files_are_answered, one_answer};
 pub use status::Status;
 pub use top::{refuse, run};

@@ -475,6 +475,14 @@ fn outputs_are_reconstructed_as_functions(rt: HostRuntime) -> Result<(), Fail> {
 }
 
 #[test]
+fn a_graph_that_gives_its_variable_prints_it(rt: HostRuntime) -> Result<(), Fail> {
+    let file = "flow 1\ngraph main\ninput x\noutput input\nbounds all num 1 den 0\n";
+    let told = run_on(rt.alloc(), &["reconstruct", "f"], steady(file.as_bytes()))?;
+    assert!(rt; is_told(&told, 0, "f1 = x\n", ""), "{told:?}");
+    Ok(())
+}
+
+#[test]
 fn a_modulus_without_a_good_attempt_is_told_with_its_gaps(rt: HostRuntime) -> Result<(), Fail> {
     let first =
         "flow: modulus 1 exhausted\nattempt 0 point 0 r division\nattempt 1 point 0 r division\nattempt 2 point 0 r division\nattempt 3 point 0 r division\nattempt 4 point 0 r division\nattempt 5 point 0 r division\nattempt 6 point 0 r division\nattempt 7 point 0 r division\n";
