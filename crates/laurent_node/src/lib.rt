@@ -49,7 +49,8 @@ pub fn expand(
     match m.inv(den[least]) {
         None => Err(Pole),
         Some(inverse) => {
-            write_expansion(m, num, &den[least + 1..], first, inverse, out);
+            let count = place_of(hi) + 1 - place_of(lo);
+            write_expansion(m, num, &den[least + 1..], first, inverse, count, out);
             Ok(())
         }
     }

@@ -73,7 +73,7 @@ fn earlier(m: Modulus, tail: &[u64], done: &[u64]) -> u64
     sum
 }
 
-/// Writes the terms one after the other, `first` being the place of the numerator's coefficient for the first of them
+/// Writes `count` terms one after the other, `first` being the place of the numerator's coefficient for the first of them
 /// and `inverse` that of the denominator's least coefficient.
 pub(crate) fn write_expansion(
     m: Modulus,
@@ -81,8 +81,10 @@ pub(crate) fn write_expansion(
     tail: &[u64],
     first: usize,
     inverse: u64,
+    count: usize,
     out: &mut [u64],
 )
+    requires count { count ≡ length out.old }
     requires num { AreResidues (value_of m) num.now }
     requires tail { AreResidues (value_of m) tail.now }
     requires inverse { inverse < value_of m }
@@ -91,7 +93,7 @@ pub(crate) fn write_expansion(
     ensures terms { (i : ℕ) → i < length out.new → slice_index out.new i ≡
         ((numerator_at num.now (first + i) + (value_of m - slice_index (0 ∷ product_of tail.now (take i out.new)) i % value_of m)) * inverse) % value_of m }
 {
-    for i in 0..out.len() {
+    for i in 0..count {
         let known = earlier(m, tail, &out[..i]);
         out[i] = m.mul(m.sub(numerator(num, first + i), known), inverse);
     }

@@ -44,3 +44,15 @@ returns-in-Some-clause-ok c e least =
     (λ i low.
     c.write_expansion.ensures.terms i low ∙
     ap (λ q. ((numerator_at num (first + exponent + i) + (m - slice_index (0 ∷ product_of q (take i out)) i % m)) * c.in-Some.inverse) % m) tail)))
+
+pub overflow_sub-count : goal.overflow_sub-count
+overflow_sub-count c =
+    let end : c.place_of-in-Some.result ≡ place c.args.hi = c.place_of-in-Some.ensures ∙ ap place (to_z-of_z _ c.args.hi c.ranges.hi) in
+    let start : c.place_of-in-Some-2.result ≡ place c.args.lo = c.place_of-in-Some-2.ensures ∙ ap place (to_z-of_z _ c.args.lo c.ranges.lo) in
+    omega arith
+
+pub write_expansion-requires-clause-count : goal.write_expansion-requires-clause-count
+write_expansion-requires-clause-count c =
+    let end : c.place_of-in-Some.result ≡ place c.args.hi = c.place_of-in-Some.ensures ∙ ap place (to_z-of_z _ c.args.hi c.ranges.hi) in
+    let start : c.place_of-in-Some-2.result ≡ place c.args.lo = c.place_of-in-Some-2.ensures ∙ ap place (to_z-of_z _ c.args.lo c.ranges.lo) in
+    omega arith
