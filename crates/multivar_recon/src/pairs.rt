@@ -15,7 +15,7 @@ ghost use Rattle.multivar_recon.specs.Vectors.{with_numbers, num_of, den_of};
 
 use crate::NoMemory;
 use crate::vectors::null_vector;
-use poly_maps::{Bounds, Mono, Pair, Point, Poly, monomials};
+use poly_maps::{Bounds, Mono, MonomialPlan, Pair, Point, Poly, monomials};
 use prime_field::Modulus;
 use ray_grid::{Grid, attempt};
 use std::alloc::Global;
@@ -117,8 +117,8 @@ pub fn fit_points(
     let dens = monomials(alloc, &bounds.den, variables)?;
     let mut monos = Vec::from_slice(alloc, &nums)?;
     monos.extend_from_slice(&dens)?;
-    let greatest = bounds.num.total.max(bounds.den.total);
-    match null_vector(alloc, m, greatest, &monos, nums.len(), points, values)? {
+    let plan = MonomialPlan::of(alloc, monos)?;
+    match null_vector(alloc, m, &plan, nums.len(), points, values)? {
         Some(numbers) => Ok(Some(pair_of(alloc, m, &nums, &dens, &numbers)?)),
         None => Ok(None),
     }

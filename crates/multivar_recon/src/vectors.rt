@@ -9,7 +9,7 @@ ghost use Rattle.multivar_recon.specs.Vectors.{IsForced, IsLeastVector, IsSample
 
 use crate::NoMemory;
 use elim_core::{Elim, Rank};
-use poly_maps::{Mono, Point, monomial_values};
+use poly_maps::{MonomialPlan, Point};
 use prime_field::Modulus;
 use std::alloc::Global;
 
@@ -28,21 +28,20 @@ fn multiply(m: Modulus, factor: u64, row: &mut [u64])
 /// numerator's.
 fn write_row(
     m: Modulus,
-    greatest: u32,
-    monos: &[Mono],
+    plan: &MonomialPlan,
     count: usize,
     point: &Point,
     value: u64,
     row: &mut [u64],
 )
-    requires count { count ≤ length monos.now }
-    requires few { length monos.now ≤ 1024 }
+    requires count { count ≤ length plan.now }
+    requires few { length plan.now ≤ 1024 }
     requires residue { value < value_of m }
-    requires room { length row.old ≡ length monos.now + 1 }
-    ensures { IsSampleRow (value_of m) (take count monos.now) (drop count monos.now) point.now value row.new }
+    requires room { length row.old ≡ length plan.now + 1 }
+    ensures { IsSampleRow (value_of m) (take count plan.now) (drop count plan.now) point.now value row.new }
 {
-    let unknowns = monos.len();
-    monomial_values(m, point, greatest, monos, &mut row[..unknowns]);
+    let unknowns = plan.len();
+    plan.write_values(m, point, &mut row[..unknowns]);
     multiply(m, m.neg(value), &mut row[count..unknowns]);
     row[unknowns] = 0;
 }
@@ -66,30 +65,29 @@ fn is_settled(kept: &Elim, words: &[u64], rank: Rank, set: &mut [u32]) -> bool
 fn absorb_samples(
     alloc: Global,
     m: Modulus,
-    greatest: u32,
-    monos: &[Mono],
+    plan: &MonomialPlan,
     count: usize,
     points: &[Point],
     values: &[u64],
     words: &mut [u64],
 ) -> Result<Option<Elim>, NoMemory>
-    requires count { count ≤ length monos.now }
-    requires few { length monos.now ≤ 1024 }
+    requires count { count ≤ length plan.now }
+    requires few { length plan.now ≤ 1024 }
     requires samples { length values.now ≡ length points.now }
     requires residues { All (λ v. v < value_of m) values.now }
-    requires room { (length monos.now + 4) * (length monos.now + 2) ≤ length words.old }
-    ensures sampled { IfOk result (λ found. IfSome found (λ kept. IsSampled (value_of m) (take count monos.now) (drop count monos.now)
+    requires room { (length plan.now + 4) * (length plan.now + 2) ≤ length words.old }
+    ensures sampled { IfOk result (λ found. IfSome found (λ kept. IsSampled (value_of m) (take count plan.now) (drop count plan.now)
         points.now values.now (length points.now) kept words.new)) }
     ensures none { IfOk result (λ found. IfNone found (IsPrime (value_of m) →
-        NoneAgrees (value_of m) (take count monos.now) (drop count monos.now) points.now values.now)) }
+        NoneAgrees (value_of m) (take count plan.now) (drop count plan.now) points.now values.now)) }
 {
-    let mut row = vec![in alloc; 0; monos.len() + 1]?;
+    let mut row = vec![in alloc; 0; plan.len() + 1]?;
     let row = row.as_mut_slice();
-    let mut set = vec![in alloc; 0; monos.len()]?;
+    let mut set = vec![in alloc; 0; plan.len()]?;
     let set = set.as_mut_slice();
-    let mut elim = Elim::start(m, monos.len(), words);
+    let mut elim = Elim::start(m, plan.len(), words);
     for (i, point) in points.iter().enumerate() {
-        write_row(m, greatest, monos, count, point, values[i], row);
+        write_row(m, plan, count, point, values[i], row);
         let rank = elim.absorb(words, row);
         if is_settled(&elim, words, rank, set) {
             return Ok(None);
@@ -99,42 +97,41 @@ fn absorb_samples(
 }
 
 /// The coefficients of the agreeing pair whose last coefficient other than 0 comes earliest, with 1 there. The first `count`
-/// monomials are the numerator's, and the others the denominator's; up to `greatest` their exponents cost least.
+/// monomials are the numerator's, and the others the denominator's.
 ///
 /// None where zeros alone agree, or where the last coefficient is one of the numerator's.
 pub(crate) fn null_vector(
     alloc: Global,
     m: Modulus,
-    greatest: u32,
-    monos: &[Mono],
+    plan: &MonomialPlan,
     count: usize,
     points: &[Point],
     values: &[u64],
 ) -> Result<Option<Vec<u64>>, NoMemory>
-    requires count { count ≤ length monos.now }
-    requires few { length monos.now ≤ 1024 }
+    requires count { count ≤ length plan.now }
+    requires few { length plan.now ≤ 1024 }
     requires samples { length values.now ≡ length points.now }
     requires residues { All (λ v. v < value_of m) values.now }
-    ensures least { IfOk result (λ found. IfSome found (λ numbers. IsLeastVector (value_of m) (take count monos.now) (drop count monos.now)
+    ensures least { IfOk result (λ found. IfSome found (λ numbers. IsLeastVector (value_of m) (take count plan.now) (drop count plan.now)
         points.now values.now numbers.items)) }
     ensures none { IfOk result (λ found. IfNone found (IsPrime (value_of m) →
-        IsForced (value_of m) (take count monos.now) (drop count monos.now) points.now values.now →
-        NoneAgrees (value_of m) (take count monos.now) (drop count monos.now) points.now values.now)) }
+        IsForced (value_of m) (take count plan.now) (drop count plan.now) points.now values.now →
+        NoneAgrees (value_of m) (take count plan.now) (drop count plan.now) points.now values.now)) }
 {
-    let mut words = vec![in alloc; 0; Elim::words(monos.len())]?;
+    let mut words = vec![in alloc; 0; Elim::words(plan.len())]?;
     let words = words.as_mut_slice();
-    let kept = absorb_samples(alloc, m, greatest, monos, count, points, values, words)?;
+    let kept = absorb_samples(alloc, m, plan, count, points, values, words)?;
     let Some(elim) = kept else {
         return Ok(None);
     };
-    let mut set = vec![in alloc; 0; monos.len()]?;
+    let mut set = vec![in alloc; 0; plan.len()]?;
     let set = set.as_mut_slice();
     let free = elim.independents(words, set);
     if free == 0 {
         return Ok(None);
     }
     let least = set[0];
-    let mut numbers = vec![in alloc; 0; monos.len()]?;
+    let mut numbers = vec![in alloc; 0; plan.len()]?;
     elim.solution(words, least, numbers.as_mut_slice());
     if least as usize <= count {
         return Ok(None);

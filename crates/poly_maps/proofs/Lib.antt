@@ -16,5 +16,6 @@ pub mod PowerLemmas
 pub mod ProductDegrees
 pub mod Rays
 pub mod Reductions
+pub mod StepLemmas
 pub mod Terms
 pub mod Within

@@ -13,3 +13,4 @@ pub mod Powers
 pub mod Quotient
 pub mod Reduced
 pub mod Shifted
+pub mod Steps

@@ -7,7 +7,7 @@ mod enumeration;
 mod fraction;
 mod laws;
 mod mono;
-mod mono_values;
+mod monomial_plan;
 mod moving;
 mod pair;
 mod point;
@@ -28,7 +28,7 @@ pub use laws::{
     leading_is_greatest, members_pin, product_value, sums, within_by_degrees,
 };
 pub use mono::Mono;
-pub use mono_values::monomial_values;
+pub use monomial_plan::MonomialPlan;
 pub use moving::{moved_degrees, moved_there_and_back, moved_value, ray_value};
 pub use pair::Pair;
 pub use point::Point;

@@ -1,5 +1,5 @@
 ghost use Rattle.std.specs.Prelude.{◌≡◌, length};
-ghost use Rattle.poly_maps.specs.Point.{IsPoint};
+ghost use Rattle.poly_maps.specs.Point.{IsPoint, padded};
 
 use std::marker::Model;
 
@@ -46,5 +46,13 @@ impl Point {
         ensures point { IsPoint self.now }
     {
         &self.entries[..self.count]
+    }
+
+    /// The entries of all eight variables, those that the point doesn't have being 0.
+    pub(crate) fn all_entries(&self) -> &[u64; 8]
+        ensures value { result.now ≡ padded self.now }
+        ensures point { IsPoint self.now }
+    {
+        &self.entries
     }
 }

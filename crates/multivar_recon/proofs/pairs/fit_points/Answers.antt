@@ -15,8 +15,8 @@ pub null_vector-requires-clause-few : goal.null_vector-requires-clause-few
 null_vector-requires-clause-few c =
     let es = c.in_ok-nums.nums.items in
     let fs = c.in_ok-dens.dens.items in
-    let whole : c.deref-3.result.now ≡ es ++ fs =
-    c.deref-3.ensures.value ∙ c.in_ok-extend_from_slice.ensures.items ∙ ap (λ xs. xs ++ c.deref-2.result.now) (c.in_ok-monos.ensures.items ∙ c.deref.ensures.value) ∙ ap (λ xs. es ++ xs) c.deref-2.ensures.value in
+    let whole : c.in_ok-plan.plan ≡ es ++ fs =
+    c.in_ok-plan.ensures ∙ c.in_ok-extend_from_slice.ensures.items ∙ ap (λ xs. xs ++ c.deref-2.result.now) (c.in_ok-monos.ensures.items ∙ c.deref.ensures.value) ∙ ap (λ xs. es ++ xs) c.deref-2.ensures.value in
     let e_lists : ListsMonomials c.args.bounds.now.num c.args.variables es = record { ascending = c.in_ok-nums.ensures.ascending; members = c.in_ok-nums.ensures.members } in
     let f_lists : ListsMonomials c.args.bounds.now.den c.args.variables fs = record { ascending = c.in_ok-dens.ensures.ascending; members = c.in_ok-dens.ensures.members } in
     let b = c.args.bounds.now in
@@ -32,12 +32,12 @@ returns-in-Some-clause-least c =
     let vs = c.args.values.now in
     let es = c.in_ok-nums.nums.items in
     let fs = c.in_ok-dens.dens.items in
-    let all = c.deref-3.result.now in
+    let all = c.in_ok-plan.plan in
     let n = c.len.result in
     let f = c.in_ok-pair_of-in-Some.field-0 in
     let zs = c.in-Some.numbers.items in
-    let whole : c.deref-3.result.now ≡ es ++ fs =
-    c.deref-3.ensures.value ∙ c.in_ok-extend_from_slice.ensures.items ∙ ap (λ xs. xs ++ c.deref-2.result.now) (c.in_ok-monos.ensures.items ∙ c.deref.ensures.value) ∙ ap (λ xs. es ++ xs) c.deref-2.ensures.value in
+    let whole : c.in_ok-plan.plan ≡ es ++ fs =
+    c.in_ok-plan.ensures ∙ c.in_ok-extend_from_slice.ensures.items ∙ ap (λ xs. xs ++ c.deref-2.result.now) (c.in_ok-monos.ensures.items ∙ c.deref.ensures.value) ∙ ap (λ xs. es ++ xs) c.deref-2.ensures.value in
     let count : n ≡ length es = c.len.ensures ∙ sym c.deref.ensures.len ∙ ap length c.deref.ensures.value in
     let least_there : IsLeastVector m (take n all) (drop n all) xs vs zs = rw c.in-Some.is at c.in_ok-numbers.ensures.least in
     let least : IsLeastVector m es fs xs vs zs =
@@ -65,10 +65,10 @@ returns-clause-none c grid covers forcing prime f is =
     let vs = c.args.values.now in
     let es = c.in_ok-nums.nums.items in
     let fs = c.in_ok-dens.dens.items in
-    let all = c.deref-3.result.now in
+    let all = c.in_ok-plan.plan in
     let n = c.len.result in
-    let whole : c.deref-3.result.now ≡ es ++ fs =
-    c.deref-3.ensures.value ∙ c.in_ok-extend_from_slice.ensures.items ∙ ap (λ xs. xs ++ c.deref-2.result.now) (c.in_ok-monos.ensures.items ∙ c.deref.ensures.value) ∙ ap (λ xs. es ++ xs) c.deref-2.ensures.value in
+    let whole : c.in_ok-plan.plan ≡ es ++ fs =
+    c.in_ok-plan.ensures ∙ c.in_ok-extend_from_slice.ensures.items ∙ ap (λ xs. xs ++ c.deref-2.result.now) (c.in_ok-monos.ensures.items ∙ c.deref.ensures.value) ∙ ap (λ xs. es ++ xs) c.deref-2.ensures.value in
     let count : n ≡ length es = c.len.ensures ∙ sym c.deref.ensures.len ∙ ap length c.deref.ensures.value in
     let none_there : IsPrime m → IsForced m (take n all) (drop n all) xs vs → NoneAgrees m (take n all) (drop n all) xs vs = rw c.in-None.is at c.in_ok-numbers.ensures.none in
     let none : IsPrime m → IsForced m es fs xs vs → NoneAgrees m es fs xs vs =

@@ -8,8 +8,8 @@ use Rattle.multivar_recon.proofs.vectors.absorb_samples.Goals as goal
 pub returns-then-is_settled-clause-none : goal.returns-then-is_settled-clause-none
 returns-then-is_settled-clause-none c prime =
     let m = value_of c.args.m in
-    let es = take c.args.count c.args.monos.now in
-    let fs = drop c.args.count c.args.monos.now in
+    let es = take c.args.count c.args.plan.now in
+    let fs = drop c.args.count c.args.plan.now in
     let points = c.args.points.now in
     let values = c.args.values.now in
     let i = c.loop-i.i in
@@ -22,8 +22,8 @@ returns-then-is_settled-clause-none c prime =
 pub loop-i-preserved : goal.loop-i-preserved
 loop-i-preserved c =
     let m = value_of c.args.m in
-    let es = take c.args.count c.args.monos.now in
-    let fs = drop c.args.count c.args.monos.now in
+    let es = take c.args.count c.args.plan.now in
+    let fs = drop c.args.count c.args.plan.now in
     let points = c.args.points.now in
     let values = c.args.values.now in
     let i = c.loop-i.i in
@@ -36,5 +36,5 @@ loop-i-preserved c =
 pub returns-clause-sampled : goal.returns-clause-sampled
 returns-clause-sampled c =
     let all : c.loop-i.i ≡ length c.args.points.now = omega arith in
-    subst (λ (n : ℕ). IsSampled (value_of c.args.m) (take c.args.count c.args.monos.now) (drop c.args.count c.args.monos.now) c.args.points.now c.args.values.now n c.loop-i.elim c.loop-i.words)
+    subst (λ (n : ℕ). IsSampled (value_of c.args.m) (take c.args.count c.args.plan.now) (drop c.args.count c.args.plan.now) c.args.points.now c.args.values.now n c.loop-i.elim c.loop-i.words)
     all c.loop-i.invariant

@@ -5,4 +5,4 @@ use Rattle.multivar_recon.proofs.vectors.absorb_samples.Given as goal
 
 abbrev pub invariant-loop-i : goal.invariant-loop-i
 invariant-loop-i l =
-    IsSampled (value_of l.m) (take l.count l.monos) (drop l.count l.monos) l.points l.values l.i l.elim l.words
+    IsSampled (value_of l.m) (take l.count l.plan) (drop l.count l.plan) l.points l.values l.i l.elim l.words
