@@ -11,7 +11,7 @@ use Rattle.graph_file.specs.Faults.{IsGoodLine}
 use Rattle.graph_file.specs.File.{IsGoodAt, IsGoodFile, is_idle_at, said}
 use Rattle.graph_file.specs.Line.{both_degrees, line_of}
 use Rattle.graph_file.specs.Lines.{lines}
-use Rattle.graph_file.specs.Says.{FileForm, Says, SaysGraph}
+use Rattle.graph_file.specs.Says.{FileForm, Says, SaysGraph, lines_through}
 use Rattle.flow_program.specs.Example.{example_file}
 
 -- the six lines of the file, of which the last is empty
@@ -54,10 +54,14 @@ example_graph = record { name = codes "main"; inputs = codes "x" ∷ []; nodes =
 abbrev pub example_form : FileForm
 example_form = record { graphs = example_graph ∷ []; points = []; all = Some (bounds_said 1 (total 1) (total 0)); special = []; coeff = coeff_or None }
 
-graph_is : SaysGraph (said all) example_graph
+graph_is : SaysGraph (lines_through 0 (said all)) example_graph
 unfolding both_degrees
 graph_is = record { named = refl; inputs = refl; names = refl; kinds = refl; output_is = refl; marks = λ k node there. cc }
 
+says_graph : (k : ℕ) (graph : Graph) → slice_get (example_graph ∷ []) k ≡ Some graph → SaysGraph (lines_through k (said all)) graph
+says_graph zero graph at = subst (SaysGraph (lines_through 0 (said all))) (same_Some example_graph graph at) graph_is
+says_graph (suc k) graph at = cc
+
 pub says : Says ForFunctions example_file example_form
 unfolding both_degrees
-says = record { graph = example_graph; only = refl; says_graph = graph_is; points_are = refl; all_is = refl; special_are = refl; coeff_is = refl }
+says = record { counted = refl; says_graph = says_graph; points_are = refl; all_is = refl; special_are = refl; coeff_is = refl }

@@ -1,5 +1,5 @@
 -- What holds of the bounds that good lines give.
-use Rattle.std.proofs.Common.{◌≡◌, ◌≢◌, ◌<◌, ◌≤◌, ◌+◌, ◌*◌, ℕ, zero, suc, Bool, true, false, ◌&&◌, ◌||◌, ◌==◌, cond, refl, sym, ap, subst, ◌∙◌, List, [], ◌∷◌, ◌++◌, length, take, map, get_or, add-one, min, max, Option, Some, None, arith, nat_le, nat_lt, is_some}
+use Rattle.std.proofs.Common.{◌≡◌, ◌-◌, ◌≢◌, ◌<◌, ◌≤◌, ◌+◌, ◌*◌, ℕ, zero, suc, Bool, true, false, ◌&&◌, ◌||◌, ◌==◌, cond, refl, sym, ap, subst, ◌∙◌, List, [], ◌∷◌, ◌++◌, length, take, map, get_or, add-one, min, max, Option, Some, None, arith, nat_le, nat_lt, is_some}
 use mathlib.Core.Logic.{⊎_elim}
 use Rattle.std.specs.Prelude.{slice_index, unwrap_or}
 use Rattle.std.specs.List.{slice_get, list_any, range_with_len}
@@ -18,7 +18,6 @@ use Rattle.graph_file.specs.declared.job.Need.TheVariants as needed
 use Rattle.graph_file.specs.declared.job.Special.{Special}
 use Rattle.graph_file.specs.declared.line.Degrees.{Degrees}
 use Rattle.graph_file.specs.declared.line.Last.{Last}
-use Rattle.graph_file.specs.declared.line.Last.TheVariants as last
 use Rattle.graph_file.specs.declared.line.Line.{Line}
 use Rattle.graph_file.specs.declared.line.Line.TheVariants as line
 use Rattle.graph_file.specs.declared.line.Which.{Which}
@@ -28,16 +27,16 @@ use Rattle.ratfun_text.specs.declared.names.Names.{Names}
 use Rattle.graph_file.specs.declared.asked.Asked.{Asked}
 use Rattle.graph_file.specs.declared.reader.Reader.{Reader}
 use Rattle.graph_file.specs.Asked.{AreLow, widened, with_bounds}
-use Rattle.graph_file.specs.Bounded.{AreBounds, AreGiven, HasBounds, IsBound, IsCoeff, main_variables}
+use Rattle.graph_file.specs.Bounded.{AreBounds, AreGiven, HasBounds, IsBound, IsCoeff, inputs_of, main_variables}
 use Rattle.graph_file.specs.Bounding.{all_in, all_with, bound_said, bounds_among, bounds_given, bounds_said, coeff_in, coeff_or, degree_in, each_of, greatest_of, grid_with, special_in, special_with, total_of, widest}
 use Rattle.graph_file.specs.Facts.{has_output, is_job_line, points_in, variables_in}
 use Rattle.graph_file.specs.Faults.{are_bounds, are_numbers, has_few, is_coeff, is_given, is_low, is_position, is_small, is_which, grid_in}
 use Rattle.graph_file.specs.File.{is_complete}
 use Rattle.graph_file.specs.Formed.{IsFormed}
 use Rattle.graph_file.specs.Read.{AreGoodLines, IsRead}
-use Rattle.graph_file.specs.Reader.{AreVariables, has_input, is_ended, last_of, stands_behind}
+use Rattle.graph_file.specs.Reader.{AreVariables, has_input, is_asked, is_ended, last_of, stands_behind}
 use Rattle.graph_file.specs.Sound.{IsPosition}
-use Rattle.graph_file.proofs.Passes.{Passes, both as each_of_two, ended_of, not_false, passes, stands-bounds, stands-coeff, stands-node, stands-output, stands-point, stands-row, stands_of, variables-passed}
+use Rattle.graph_file.proofs.Passes.{Passes, both as each_of_two, ended_of, not_false, passes, stands-bounds, stands-coeff, stands-node, stands-output, stands-point, stands-row, stands_of, unasked-behind, variables-passed}
 use Rattle.graph_file.proofs.SoundLemmas.{at_push}
 
 -- what holds of each of eight numbers, and of nothing behind them
@@ -249,20 +248,9 @@ widest-more outputs given all special fresh =
 -- what holds behind good lines
 pub record Holds (lines : List Line) : Type 0 where
   pub inputs : has_input (last_of lines) ≡ true → (1 ≤ length (variables_in lines)) × (length (variables_in lines) ≤ 8)
-  pub none : has_output lines ≡ false → (all_in lines ≡ None) × ((special_in lines ≡ []) × (coeff_in lines ≡ None))
+  pub none : is_asked (last_of lines) ≡ false → (all_in lines ≡ None) × ((special_in lines ≡ []) × (coeff_in lines ≡ None))
   pub given : has_output lines ≡ true → AreGiven (length (variables_in lines)) (all_in lines) (special_in lines)
   pub coefficients : (coeff : Coeff) → coeff_in lines ≡ Some coeff → IsCoeff coeff
-
-no_job_line : (stood : Last) (next : Line) → is_job_line next ≡ false → stands_behind stood next ≡ true → is_ended stood ≡ false
-no_job_line last.Start next other e = refl
-no_job_line last.Flow next other e = refl
-no_job_line last.Graph next other e = refl
-no_job_line last.Input next other e = refl
-no_job_line last.Node next other e = refl
-no_job_line last.Sparse next other e = refl
-no_job_line last.Row next other e = refl
-no_job_line last.Output next other e = let never : true ≡ false = sym e ∙ other in cc
-no_job_line last.Job next other e = let never : true ≡ false = sym e ∙ other in cc
 
 input_ended : (stood : Last) → is_ended stood ≡ true → has_input stood ≡ true
 input_ended stood e = Rattle.graph_file.proofs.SoundLemmas.input_with_output stood e
@@ -270,8 +258,8 @@ input_ended stood e = Rattle.graph_file.proofs.SoundLemmas.input_with_output sto
 stands_at : (before : List Line) (next : Line) → Passes before next → stands_behind (last_of before) next ≡ true
 stands_at before next pass = sym (stands_of before next) ∙ pass.stands
 
-not_yet : (before : List Line) (next : Line) → is_job_line next ≡ false → Passes before next → has_output before ≡ false
-not_yet before next other pass = ended_of before ∙ no_job_line (last_of before) next other (stands_at before next pass)
+not_yet : (before : List Line) (next : Line) → is_job_line next ≡ false → Passes before next → is_asked (last_of before) ≡ false
+not_yet before next other pass = unasked-behind (last_of before) next other (stands_at before next pass)
 
 nothing_given : (variables : ℕ) (all : Option Bounds) (special : List Special) → 1 ≤ variables → variables ≤ 8 → all ≡ None → special ≡ [] → AreGiven variables all special
 nothing_given variables all special some few no_all no_special =
@@ -399,7 +387,7 @@ module _ (before : List Line) (so_far : Holds before) where
       let none : (all_in before ≡ None) × ((special_in before ≡ []) × (coeff_in before ≡ None)) = begins (line.Output list) refl pass in
       record {
         inputs = λ e. inputs;
-        none = λ e. cc;
+        none = λ e. none;
         given = λ e. nothing_given (length (variables_in before)) (all_in before) (special_in before) inputs.0 inputs.1 none.0 none.1.0;
         coefficients = so_far.coefficients;
       }
@@ -452,10 +440,7 @@ holds [] good = record {
 holds (next ∷ before) good = holds_next before (holds before good.1.2) next good.0 good.1.0 (passes before next good.1.1.0)
 
 -- the bounds of a file
-one_graph_variables : (graphs : List Graph) (graph : Graph) → graphs ≡ graph ∷ [] → main_variables graphs ≡ length graph.inputs
-one_graph_variables graphs graph only = ap main_variables only
-
-output_stands : (need : Need) (all : List Line) → is_complete need all ≡ true → has_output all ≡ true
+pub output_stands : (need : Need) (all : List Line) → is_complete need all ≡ true → has_output all ≡ true
 output_stands needed.Points all e = e
 output_stands needed.Learning all e = e
 output_stands needed.Functions all e = (each_of_two (has_output all) _ e).0
@@ -465,10 +450,10 @@ all_stands needed.Points all e is none = cc
 all_stands needed.Learning all e is none = cc
 all_stands needed.Functions all e is none = let never : is_some {T = Bounds} None ≡ true = ap is_some (sym none) ∙ (each_of_two (has_output all) _ e).1 in cc
 
-pub said-bounds : (need : Need) (all : List Line) (graphs : List Graph) (graph : Graph) → AreGoodLines all → is_complete need all ≡ true → graphs ≡ graph ∷ [] → graph.inputs ≡ variables_in all → HasBounds graphs (all_in all) (special_in all) (coeff_or (coeff_in all)) need
-said-bounds need all graphs graph good complete only inputs =
+pub said-bounds : (need : Need) (all : List Line) (graphs : List Graph) (graph : Graph) → AreGoodLines all → is_complete need all ≡ true → slice_get graphs (length graphs - 1) ≡ Some graph → graph.inputs ≡ variables_in all → HasBounds graphs (all_in all) (special_in all) (coeff_or (coeff_in all)) need
+said-bounds need all graphs graph good complete main inputs =
     let so_far : Holds all = holds all good in
-    let count : main_variables graphs ≡ length (variables_in all) = one_graph_variables graphs graph only ∙ ap length inputs in
+    let count : main_variables graphs ≡ length (variables_in all) = ap inputs_of main ∙ ap length inputs in
     record {
       given = subst (λ (v : ℕ). AreGiven v (all_in all) (special_in all)) (sym count) (so_far.given (output_stands need all complete));
       coefficients = coeff-or-is (coeff_in all) so_far.coefficients;

@@ -14,6 +14,7 @@ mod Less
 pub mod KindFacts
 mod TakeLemmas
 mod StepLemmas
+mod GraphLemmas
 mod BoundLemmas
 mod FileLemmas
 mod JobLemmas

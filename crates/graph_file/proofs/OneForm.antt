@@ -30,7 +30,7 @@ use Rattle.graph_file.specs.File.{IsBadAt, IsCutOff, IsFirstBad, IsFirstBadLine,
 use Rattle.graph_file.specs.Line.{line_of, texts_in}
 use Rattle.graph_file.specs.Lines.{lines}
 use Rattle.graph_file.specs.Needed.{IsNeededFor, kinds_of}
-use Rattle.graph_file.specs.Says.{AreKinds, AreTrees, FileForm, IsKindOf, Says, SaysGraph, kind_of, last_with_row, names_of}
+use Rattle.graph_file.specs.Says.{AreKinds, AreTrees, FileForm, IsKindOf, Says, SaysGraph, kind_of, last_with_row, lines_through, names_of}
 
 -- two places are one, or one stands before the other
 compare_places : (i j : ℕ) → (i ≡ j) ⊎ ((i < j) ⊎ (j < i))
@@ -233,9 +233,15 @@ same_graph all a b x y =
     let make : List ℕ → List (List ℕ) → List Node → Source → Graph = λ n i m o. record { name = n; inputs = i; nodes = m; output = o } in
     ap (λ n. make n a.inputs a.nodes a.output) name ∙ ap (λ i. make b.name i a.nodes a.output) (x.inputs ∙ sym y.inputs) ∙ ap (λ m. make b.name b.inputs m a.output) nodes ∙ ap (make b.name b.inputs b.nodes) output
 
+same_graphs : (a b : List Graph) → length a ≡ length b → ((k : ℕ) (x y : Graph) → slice_get a k ≡ Some x → slice_get b k ≡ Some y → x ≡ y) → a ≡ b
+same_graphs [] [] count each = refl
+same_graphs [] (y ∷ b) count each = absurd (omega (arith, count))
+same_graphs (x ∷ a) [] count each = absurd (omega (arith, count))
+same_graphs (x ∷ a) (y ∷ b) count each = ap (λ (g : Graph). g ∷ a) (each 0 x y refl refl) ∙ ap (λ (l : List Graph). y ∷ l) (same_graphs a b (omega (arith, count)) (λ k p q at_p at_q. each (suc k) p q at_p at_q))
+
 pub one-form : (need : Need) (bytes : List ℕ) (f g : FileForm) → Says need bytes f → Says need bytes g → f ≡ g
 one-form need bytes f g x y =
-    let graphs : f.graphs ≡ g.graphs = x.only ∙ ap (λ (a : Graph). a ∷ []) (same_graph (said (lines bytes)) x.graph y.graph x.says_graph y.says_graph) ∙ sym y.only in
+    let graphs : f.graphs ≡ g.graphs = same_graphs f.graphs g.graphs (x.counted ∙ sym y.counted) (λ k a b at_a at_b. same_graph (lines_through k (said (lines bytes))) a b (x.says_graph k a at_a) (y.says_graph k b at_b)) in
     let make : List Graph → List (List ℕ) → Option Bounds → List Special → Coeff → FileForm = λ gs ps a s c. record { graphs = gs; points = ps; all = a; special = s; coeff = c } in
     ap (λ gs. make gs f.points f.all f.special f.coeff) graphs
     ∙ ap (λ ps. make g.graphs ps f.all f.special f.coeff) (x.points_are ∙ sym y.points_are)

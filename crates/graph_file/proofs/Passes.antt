@@ -1,5 +1,5 @@
 -- What holds of a line with which nothing is wrong, its expressions apart.
-use Rattle.std.proofs.Common.{◌≡◌, ◌<◌, ◌≤◌, ◌+◌, ◌-◌, ◌^◌, ℕ, zero, suc, Bool, true, false, not, ◌&&◌, ◌||◌, cond, refl, sym, ap, subst, List, [], ◌∷◌, ◌++◌, length, Option, Some, None, arith, bytes_eq, nat_le, nat_lt, ◌==◌}
+use Rattle.std.proofs.Common.{◌≡◌, ◌<◌, ◌≤◌, ◌+◌, ◌-◌, ◌^◌, ℕ, zero, suc, Bool, true, false, not, ◌&&◌, ◌||◌, cond, refl, sym, ap, subst, ◌∙◌, List, [], ◌∷◌, ◌++◌, length, Option, Some, None, arith, bytes_eq, nat_le, nat_lt, ◌==◌}
 use Rattle.std.specs.List.{slice_get, slice_index, list_any, list_all}
 use Rattle.std.proofs.lemmas.Bool.Decides.{nat_tests}
 use Rattle.std.proofs.lemmas.Option.{slice_get-get_or}
@@ -15,13 +15,13 @@ use Rattle.graph_file.specs.declared.line.Which.{Which}
 use Rattle.graph_file.specs.declared.line.Line.TheVariants.{Flow, Graph, Input, Node, Row, Output, Point, Bounds, Coeff}
 use Rattle.graph_file.specs.declared.line.Statement.{Statement}
 use Rattle.graph_file.specs.declared.line.Statement.TheVariants.{Eval, Take, Slice, Chain, Sum, Product, Matmul, Dense, Sparse}
-use Rattle.graph_file.specs.Facts.{entries_in, has_output, points_in, unknowns_in, variables_in}
+use Rattle.graph_file.specs.Facts.{entries_in, graph_names_in, has_output, is_job_line, points_in, unknowns_in, variables_in}
 use Rattle.graph_file.specs.Faults.{are_columns, are_new, fault_after, fits, goes_on, is_entry, is_limit, is_repeated, is_residue, is_row_line, is_short, is_syntax, is_unknown_node, is_version, may_stand, takes_rows}
 use Rattle.poly_maps.specs.Point.{IsPoint}
 use Rattle.elim_core.specs.Solver.{IsAscending}
 use Rattle.elim_core.specs.Sparse.{IsSparseRow}
 use Rattle.graph_file.specs.Formed.{Ascend}
-use Rattle.graph_file.specs.Reader.{AreVariables, has_input, has_name, has_rows, is_ended, last_of, node_stood, stands_behind}
+use Rattle.graph_file.specs.Reader.{AreVariables, has_input, has_name, has_rows, is_asked, is_ended, last_of, node_stood, stands_behind}
 
 pub both : (a b : Bool) → (a && b) ≡ true → (a ≡ true) × (b ≡ true)
 both true b e = (refl, e)
@@ -116,10 +116,10 @@ ended_of (Bounds outputs num den ∷ before) = refl
 ended_of (Coeff num den ∷ before) = refl
 
 -- where lines may stand
-pub stands-flow : (stood : Last) (version : ℕ) → stands_behind stood (Flow version) ≡ true → has_input stood ≡ false
+pub stands-flow : (stood : Last) (version : ℕ) → stands_behind stood (Flow version) ≡ true → has_name stood ≡ false
 stands-flow last.Start version e = refl
-stands-flow last.Flow version e = refl
-stands-flow last.Graph version e = refl
+stands-flow last.Flow version e = cc
+stands-flow last.Graph version e = cc
 stands-flow last.Input version e = cc
 stands-flow last.Node version e = cc
 stands-flow last.Sparse version e = cc
@@ -127,16 +127,29 @@ stands-flow last.Row version e = cc
 stands-flow last.Output version e = cc
 stands-flow last.Job version e = cc
 
-pub stands-graph : (stood : Last) (name : List ℕ) → stands_behind stood (Graph name) ≡ true → has_input stood ≡ false
-stands-graph last.Start name e = refl
-stands-graph last.Flow name e = refl
-stands-graph last.Graph name e = refl
-stands-graph last.Input name e = cc
-stands-graph last.Node name e = cc
-stands-graph last.Sparse name e = cc
-stands-graph last.Row name e = cc
-stands-graph last.Output name e = cc
-stands-graph last.Job name e = cc
+-- a graph begins behind no other or behind a whole one
+pub stands-graph : (stood : Last) (name : List ℕ) → stands_behind stood (Graph name) ≡ true → has_name stood ≡ true → is_ended stood ≡ true
+stands-graph last.Start name e is = cc
+stands-graph last.Flow name e is = cc
+stands-graph last.Graph name e is = cc
+stands-graph last.Input name e is = cc
+stands-graph last.Node name e is = cc
+stands-graph last.Sparse name e is = cc
+stands-graph last.Row name e is = cc
+stands-graph last.Output name e is = refl
+stands-graph last.Job name e is = refl
+
+-- behind a line of the job only such lines stand
+pub unasked-behind : (stood : Last) (line : Line) → is_job_line line ≡ false → stands_behind stood line ≡ true → is_asked stood ≡ false
+unasked-behind last.Start line other e = refl
+unasked-behind last.Flow line other e = refl
+unasked-behind last.Graph line other e = refl
+unasked-behind last.Input line other e = refl
+unasked-behind last.Node line other e = refl
+unasked-behind last.Sparse line other e = refl
+unasked-behind last.Row line other e = refl
+unasked-behind last.Output line other e = refl
+unasked-behind last.Job line other e = let never : true ≡ false = sym e ∙ other in cc
 
 pub stands-input : (stood : Last) (names : List (List ℕ)) → stands_behind stood (Input names) ≡ true → (has_name stood ≡ true) × (has_input stood ≡ false)
 stands-input last.Start names e = cc
@@ -291,7 +304,11 @@ at_most_32 name short = let within : nat_le (length name) 32 ≡ true = short in
 
 -- the name of a `graph` line is short
 pub graph-passed : (earlier : List Line) (name : List ℕ) → Passes earlier (Graph name) → length name ≤ 32
-graph-passed earlier name pass = at_most_32 name (not_false _ pass.limits)
+graph-passed earlier name pass = at_most_32 name (both (is_short name) _ (not_false _ pass.limits)).0
+
+-- there is room for its graph
+pub graphs-passed : (earlier : List Line) (name : List ℕ) → Passes earlier (Graph name) → length (graph_names_in earlier) < 64
+graphs-passed earlier name pass = let within : nat_lt (length (graph_names_in earlier)) 64 ≡ true = (both (is_short name) _ (not_false _ pass.limits)).1 in grind (arith, nat_tests)
 
 -- there is room for the point of a `point` line
 pub room-passed : (earlier : List Line) (entries : List ℕ) → Passes earlier (Point entries) → length (points_in earlier) < 65536

@@ -1,5 +1,5 @@
 -- The variables of the graph that a file says have names as variables may have, and the grid that it says covers its bounds.
-use Rattle.std.proofs.Common.{◌≡◌, ◌≢◌, ℕ, ◌-◌, ◌≤◌, List, [], ◌∷◌, length, Option, Some, None, refl, sym, ◌∙◌, ap, subst, arith, inl, inr}
+use Rattle.std.proofs.Common.{◌≡◌, ◌≢◌, ℕ, ◌-◌, ◌≤◌, List, [], ◌∷◌, length, Option, Some, None, refl, sym, ap, subst, arith, inl, inr}
 use Rattle.std.specs.Prelude.{◌⊎◌, slice_get, unwrap_or}
 use Rattle.poly_maps.specs.declared.bound.Bounds.{Bounds}
 use Rattle.multivar_recon.specs.Covering.{Covers}
@@ -9,7 +9,7 @@ use Rattle.graph_file.specs.declared.graph.Graph.{Graph}
 use Rattle.graph_file.specs.declared.job.Need.{Need}
 use Rattle.graph_file.specs.declared.line.Line.{Line}
 use Rattle.graph_file.specs.declared.line.Line.TheVariants as line
-use Rattle.graph_file.specs.Bounded.{AreGiven, HasBounds, main_variables}
+use Rattle.graph_file.specs.Bounded.{AreGiven, HasBounds, inputs_of, main_variables}
 use Rattle.graph_file.specs.Bounding.{bounds_among, bounds_given, grid_with, no_bounds, widest}
 use Rattle.graph_file.specs.Facts.{variables_in}
 use Rattle.graph_file.specs.File.{IsGoodFile, said}
@@ -19,7 +19,8 @@ use Rattle.graph_file.specs.Reader.{AreVariables}
 use Rattle.graph_file.specs.Says.{FileForm, Says, bounds_at, grid_of}
 use Rattle.graph_file.proofs.BoundLemmas.{at-covered}
 use Rattle.graph_file.proofs.Passes.{passes, variables-passed}
-use Rattle.graph_file.proofs.SaidBounds.{bounds-of-said, good-file-lines}
+use Rattle.graph_file.proofs.GraphLemmas.{HasMain}
+use Rattle.graph_file.proofs.SaidBounds.{bounds-of-said, good-file-lines, main-said}
 
 -- good lines have no variables, or sound ones
 variables-said : (all : List Line) → AreGoodLines all → (variables_in all ≡ []) ⊎ AreVariables (variables_in all)
@@ -39,18 +40,15 @@ named : (names : List (List ℕ)) → 1 ≤ length names → (names ≡ []) ⊎ 
 named names some (inl none) = absurd (omega (arith, some, ap length none))
 named names some (inr are) = record { some = are.some; few = are.few; named = are.are_names.named; distinct = are.are_names.distinct }
 
-main_of : (graphs : List Graph) (graph : Graph) → graphs ≡ graph ∷ [] → slice_get graphs (length graphs - 1) ≡ Some graph
-main_of graphs graph only = ap (λ gs. slice_get gs (length gs - 1)) only
-
 pub names-of-said : (need : Need) (bytes : List ℕ) (f : FileForm) → IsGoodFile need bytes → Says need bytes f → (graph : Graph) × (slice_get f.graphs (length f.graphs - 1) ≡ Some graph) × printed.AreVariables graph.inputs
 names-of-said need bytes f good says =
-    let graph : Graph = says.graph in
+    let main : HasMain (said (lines bytes)) f.graphs = main-said need bytes f good says in
     let has : HasBounds f.graphs f.all f.special f.coeff need = bounds-of-said need bytes f good says in
-    let inputs : graph.inputs ≡ variables_in (said (lines bytes)) = says.says_graph.inputs in
+    let inputs : main.graph.inputs ≡ variables_in (said (lines bytes)) = main.says.inputs in
     let some : 1 ≤ main_variables f.graphs = has.given.grid.some in
-    let count : main_variables f.graphs ≡ length graph.inputs = ap main_variables says.only in
-    let are : (graph.inputs ≡ []) ⊎ AreVariables graph.inputs = subst (λ (names : List (List ℕ)). (names ≡ []) ⊎ AreVariables names) (sym inputs) (variables-said (said (lines bytes)) (good-file-lines need bytes good)) in
-    (graph, main_of f.graphs graph says.only, named graph.inputs (omega (arith, some, count)) are)
+    let count : main_variables f.graphs ≡ length main.graph.inputs = ap inputs_of main.there in
+    let are : (main.graph.inputs ≡ []) ⊎ AreVariables main.graph.inputs = subst (λ (names : List (List ℕ)). (names ≡ []) ⊎ AreVariables names) (sym inputs) (variables-said (said (lines bytes)) (good-file-lines need bytes good)) in
+    (main.graph, main.there, named main.graph.inputs (omega (arith, some, count)) are)
 
 covered : (variables : ℕ) (f : FileForm) (all : Option Bounds) (output : ℕ) → f.all ≡ all → AreGiven variables f.all f.special → f.all ≢ None →
     Covers (bound_of (grid_with variables (widest (bounds_given f.all f.special)))) (bounds_among f.special (unwrap_or f.all no_bounds) output)

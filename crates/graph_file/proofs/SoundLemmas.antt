@@ -12,7 +12,7 @@ use Rattle.graph_file.specs.declared.graph.Source.{Source}
 use Rattle.graph_file.specs.declared.graph.Source.TheVariants as source
 use Rattle.graph_file.specs.declared.line.Last.{Last}
 use Rattle.graph_file.specs.declared.line.Last.TheVariants as last
-use Rattle.graph_file.specs.Reader.{is_ended}
+use Rattle.graph_file.specs.Reader.{is_asked, is_ended}
 use Rattle.graph_file.specs.Reader.{AreDistinct, AreVariables, HasNoRows, HasRows, IsBegun, IsBegunNode, IsOpen, IsSound, has_input, has_name, has_rows, kind_stood, kind_unknowns}
 use Rattle.graph_file.specs.Needed.{kinds_of}
 use Rattle.graph_file.specs.Says.{last_with_row, names_of, with_row}
@@ -24,7 +24,7 @@ use Rattle.std.proofs.lemmas.Option.{slice_get_within}
 use Rattle.graph_file.specs.declared.graph.NodeKind.{NodeKind}
 use Rattle.graph_file.specs.declared.graph.NodeKind.TheVariants as node
 
-named_with_input : (stood : Last) → has_input stood ≡ true → has_name stood ≡ true
+pub named_with_input : (stood : Last) → has_input stood ≡ true → has_name stood ≡ true
 named_with_input last.Start e = cc
 named_with_input last.Flow e = cc
 named_with_input last.Graph e = cc
@@ -34,6 +34,17 @@ named_with_input last.Sparse e = refl
 named_with_input last.Row e = refl
 named_with_input last.Output e = refl
 named_with_input last.Job e = refl
+
+no_input_without_name : (stood : Last) → has_name stood ≡ false → has_input stood ≡ false
+no_input_without_name last.Start e = refl
+no_input_without_name last.Flow e = refl
+no_input_without_name last.Graph e = cc
+no_input_without_name last.Input e = cc
+no_input_without_name last.Node e = cc
+no_input_without_name last.Sparse e = cc
+no_input_without_name last.Row e = cc
+no_input_without_name last.Output e = cc
+no_input_without_name last.Job e = cc
 
 pub input_with_output : (stood : Last) → is_ended stood ≡ true → has_input stood ≡ true
 input_with_output last.Start e = cc
@@ -45,6 +56,18 @@ input_with_output last.Sparse e = cc
 input_with_output last.Row e = cc
 input_with_output last.Output e = refl
 input_with_output last.Job e = refl
+
+-- no line of the job stood behind a graph without variables
+unasked_without_input : (stood : Last) → has_input stood ≡ false → is_asked stood ≡ false
+unasked_without_input last.Start e = refl
+unasked_without_input last.Flow e = refl
+unasked_without_input last.Graph e = refl
+unasked_without_input last.Input e = refl
+unasked_without_input last.Node e = refl
+unasked_without_input last.Sparse e = refl
+unasked_without_input last.Row e = refl
+unasked_without_input last.Output e = refl
+unasked_without_input last.Job e = cc
 
 -- what stands at a place of a list with one more element
 pub at_push : {X : Type 0} (xs : List X) (x : X) (k : ℕ) (y : X) → slice_get (xs ++ x ∷ []) k ≡ Some y → (slice_get xs k ≡ Some y) ⊎ ((k ≡ length xs) × (x ≡ y))
@@ -69,7 +92,7 @@ not_at (other ∷ names) name none (suc k) at = not_at names name (from (bytes_e
     from true e = cc
     from false e = e
 
-AreDistinct-push : (names : List (List ℕ)) (name : List ℕ) → AreDistinct names → list_any (λ other. bytes_eq other name) names ≡ false → AreDistinct (names ++ name ∷ [])
+pub AreDistinct-push : (names : List (List ℕ)) (name : List ℕ) → AreDistinct names → list_any (λ other. bytes_eq other name) names ≡ false → AreDistinct (names ++ name ∷ [])
 AreDistinct-push names name distinct fresh i j other first second = ⊎_elim
     (λ (at : slice_get names i ≡ Some other). ⊎_elim
     (λ (again : slice_get names j ≡ Some other). distinct i j other at again)
@@ -81,7 +104,7 @@ AreDistinct-push names name distinct fresh i j other first second = ⊎_elim
     (at_push names name j other second))
     (at_push names name i other first)
 
-nothing_at : {X : Type 0} (xs : List X) (k : ℕ) (x : X) → xs ≡ [] → slice_get xs k ≡ Some x → ⊥
+pub nothing_at : {X : Type 0} (xs : List X) (k : ℕ) (x : X) → xs ≡ [] → slice_get xs k ≡ Some x → ⊥
 nothing_at {X} xs k x none at = let told : slice_get {X = X} [] k ≡ Some x = ap (λ (l : List X). slice_get l k) (sym none) ∙ at in cc
 
 -- the output stands behind no sparse node without rows
@@ -110,6 +133,9 @@ input_with_node (node.Product parts) = refl
 input_with_node (node.Matmul left right rows mid cols) = refl
 input_with_node (node.Dense from rows unknowns want) = refl
 input_with_node (node.Sparse from unknowns want rows) = refl
+
+named_with_node : (kind : NodeKind) → has_name (kind_stood kind) ≡ true
+named_with_node kind = named_with_input (kind_stood kind) (input_with_node kind)
 
 no_output_with_node : (kind : NodeKind) → is_ended (kind_stood kind) ≡ false
 no_output_with_node (node.Eval from exprs) = refl
@@ -182,12 +208,12 @@ same_last (z ∷ []) [] x y e = cc
 same_last (z ∷ w ∷ xs) [] x y e = cc
 same_last (z ∷ xs) (w ∷ ys) x y e = same_last xs ys x y (let rest : xs ++ x ∷ [] ≡ ys ++ y ∷ [] = cc in rest)
 
-at_front : {X : Type 0} (xs : List X) (x : X) (k : ℕ) (y : X) → slice_get xs k ≡ Some y → slice_get (xs ++ x ∷ []) k ≡ Some y
+pub at_front : {X : Type 0} (xs : List X) (x : X) (k : ℕ) (y : X) → slice_get xs k ≡ Some y → slice_get (xs ++ x ∷ []) k ≡ Some y
 at_front [] x k y at = cc
 at_front (z ∷ zs) x zero y at = at
 at_front (z ∷ zs) x (suc k) y at = at_front zs x k y at
 
-at_last : {X : Type 0} (xs : List X) (x : X) → slice_get (xs ++ x ∷ []) (length xs) ≡ Some x
+pub at_last : {X : Type 0} (xs : List X) (x : X) → slice_get (xs ++ x ∷ []) (length xs) ≡ Some x
 at_last [] x = refl
 at_last (z ∷ zs) x = at_last zs x
 
@@ -239,6 +265,7 @@ IsSound-first variables names nodes points no_variables no_names no_nodes no_poi
   listed = no_variables ∙ ap (λ v. Listed (variables_of v)) (sym no_variables);
   few = omega (arith, ap (λ v. length (variables_of v)) no_variables);
   has_graph = λ e. cc;
+  no_graph = λ e. refl;
   named = λ given is. cc;
   inputs = λ e. cc;
   ended = λ e. cc;
@@ -259,16 +286,17 @@ IsSound-first variables names nodes points no_variables no_names no_nodes no_poi
 }
 
 module _ (stood : Last) (name : Option (List ℕ)) (variables : Names) (names : List (List ℕ)) (nodes : List Node) (unknowns entries : ℕ) (output : Option Source) (points : List (List ℕ)) (sound : IsSound stood name variables names nodes unknowns entries output points) where
-  pub IsSound-flow : has_input stood ≡ false → IsSound last.Flow name variables names nodes unknowns entries output points
-  IsSound-flow fresh = record {
+  pub IsSound-flow : has_name stood ≡ false → IsSound last.Flow name variables names nodes unknowns entries output points
+  IsSound-flow unnamed = let fresh : has_input stood ≡ false = no_input_without_name stood unnamed in record {
     has_graph = λ e. cc;
+    no_graph = λ e. sound.no_graph unnamed;
     named = sound.named;
     inputs = λ e. cc;
     listed = sound.listed;
     few = sound.few;
     ended = λ e. cc;
     no_node = λ e. sound.no_node fresh;
-    no_point = λ e. sound.no_point fresh;
+    no_point = λ e. sound.no_point (unasked_without_input stood fresh);
     names_are = sound.names_are;
     bounded = sound.bounded;
     begun = sound.begun;
@@ -283,9 +311,10 @@ module _ (stood : Last) (name : Option (List ℕ)) (variables : Names) (names : 
     fitting = sound.fitting;
   }
 
-  pub IsSound-graph : (given : List ℕ) (none : Names) (no_names : List (List ℕ)) (no_nodes : List Node) → has_input stood ≡ false → IsTrue (is_name given) → length given ≤ 32 → none ≡ Listed [] → no_names ≡ [] → no_nodes ≡ [] → IsSound last.Graph (Some given) none no_names no_nodes 0 0 None points
+  pub IsSound-graph : (given : List ℕ) (none : Names) (no_names : List (List ℕ)) (no_nodes : List Node) → is_asked stood ≡ false → IsTrue (is_name given) → length given ≤ 32 → none ≡ Listed [] → no_names ≡ [] → no_nodes ≡ [] → IsSound last.Graph (Some given) none no_names no_nodes 0 0 None points
   IsSound-graph given none no_names no_nodes fresh is_a_name short none_is no_names_are no_nodes_are = record {
     has_graph = λ e is. cc;
+    no_graph = λ e. cc;
     named = λ name is. let told : Some given ≡ Some name = is in let same : given ≡ name = cc in subst (λ (n : List ℕ). IsTrue (is_name n) × (length n ≤ 32)) same (is_a_name, short);
     inputs = λ e. cc;
     listed = none_is ∙ ap (λ v. Listed (variables_of v)) (sym none_is);
@@ -310,13 +339,14 @@ module _ (stood : Last) (name : Option (List ℕ)) (variables : Names) (names : 
   pub IsSound-input : (given : List (List ℕ)) → has_name stood ≡ true → has_input stood ≡ false → AreVariables given → IsSound last.Input name (Listed given) names nodes unknowns entries output points
   IsSound-input given has_graph fresh variables_are = record {
     has_graph = λ e. sound.has_graph has_graph;
+    no_graph = λ e. cc;
     named = sound.named;
     inputs = λ e. variables_are;
     listed = refl;
     few = variables_are.few;
     ended = λ e. cc;
     no_node = λ e. cc;
-    no_point = λ e. cc;
+    no_point = λ e. sound.no_point (unasked_without_input stood fresh);
     names_are = sound.names_are;
     bounded = sound.bounded;
     begun = λ k node at. absurd (nothing_at nodes k node (sound.no_node fresh) at);
@@ -328,21 +358,22 @@ module _ (stood : Last) (name : Option (List ℕ)) (variables : Names) (names : 
     few_unknowns = sound.few_unknowns;
     few_entries = sound.few_entries;
     few_points = sound.few_points;
-    fitting = λ k point at. absurd (nothing_at points k point (sound.no_point fresh) at);
+    fitting = λ k point at. absurd (nothing_at points k point (sound.no_point (unasked_without_input stood fresh)) at);
   }
 
-  pub IsSound-node : (node : Node) (stood' : Last) (names' : List (List ℕ)) (nodes' : List Node) (unknowns' : ℕ) → has_input stood ≡ true → (stood ≡ last.Sparse → ⊥) → length nodes < 4096 → list_any (λ other. bytes_eq other node.name) names ≡ false → IsBegunNode (length (variables_of variables)) (length nodes) node → HasNoRows node.kind → stood' ≡ kind_stood node.kind → names' ≡ names ++ node.name ∷ [] → nodes' ≡ nodes ++ node ∷ [] → unknowns' ≡ kind_unknowns node.kind → IsSound stood' name variables names' nodes' unknowns' 0 output points
-  IsSound-node node stood' names' nodes' unknowns' inputs whole few fresh is_node no_rows more_stood more_names more_nodes more_unknowns =
+  pub IsSound-node : (node : Node) (stood' : Last) (names' : List (List ℕ)) (nodes' : List Node) (unknowns' : ℕ) → is_asked stood ≡ false → has_input stood ≡ true → (stood ≡ last.Sparse → ⊥) → length nodes < 4096 → list_any (λ other. bytes_eq other node.name) names ≡ false → IsBegunNode (length (variables_of variables)) (length nodes) node → HasNoRows node.kind → stood' ≡ kind_stood node.kind → names' ≡ names ++ node.name ∷ [] → nodes' ≡ nodes ++ node ∷ [] → unknowns' ≡ kind_unknowns node.kind → IsSound stood' name variables names' nodes' unknowns' 0 output points
+  IsSound-node node stood' names' nodes' unknowns' unasked inputs whole few fresh is_node no_rows more_stood more_names more_nodes more_unknowns =
       let P : Last → List (List ℕ) → List Node → ℕ → Type 0 = λ s ns ms u. IsSound s name variables ns ms u 0 output points in
       let made : P (kind_stood node.kind) (names ++ node.name ∷ []) (nodes ++ node ∷ []) (kind_unknowns node.kind) = record {
         has_graph = λ e. sound.has_graph (named_with_input stood inputs);
+        no_graph = λ e. let never : true ≡ false = sym (named_with_node node.kind) ∙ e in cc;
         named = sound.named;
         inputs = λ e. sound.inputs inputs;
         listed = sound.listed;
         few = sound.few;
         ended = λ e. let never : true ≡ false = sym e ∙ no_output_with_node node.kind in cc;
         no_node = λ e. let never : true ≡ false = sym (input_with_node node.kind) ∙ e in cc;
-        no_point = λ e. let never : true ≡ false = sym (input_with_node node.kind) ∙ e in cc;
+        no_point = λ e. sound.no_point unasked;
         names_are = map-append (λ (n : Node). n.name) nodes (node ∷ []) ∙ ap (λ l. l ++ node.name ∷ []) sound.names_are;
         bounded = omega (arith, length-append nodes (node ∷ []));
         begun = λ k other at. ⊎_elim
@@ -367,8 +398,8 @@ module _ (stood : Last) (name : Option (List ℕ)) (variables : Names) (names : 
       let with_unknowns : P stood' (names ++ node.name ∷ []) (nodes ++ node ∷ []) unknowns' = subst (λ (u : ℕ). P stood' (names ++ node.name ∷ []) (nodes ++ node ∷ []) u) (sym more_unknowns) with_stood in
       subst (λ (ns : List (List ℕ)). P stood' ns nodes' unknowns') (sym more_names) (subst (λ (ms : List Node). P stood' (names ++ node.name ∷ []) ms unknowns') (sym more_nodes) with_unknowns)
 
-  pub IsSound-row : (front : List Node) (node : Node) (row : SparseRow) (nodes' : List Node) (entries' : ℕ) → nodes ≡ front ++ node ∷ [] → has_rows stood ≡ true → 1 ≤ length row.columns → IsSparseRow unknowns row → entries + length row.columns ≤ 65536 → nodes' ≡ front ++ (record { name = node.name; kind = with_row row node.kind; needed = node.needed }) ∷ [] → entries' ≡ entries + length row.columns → IsSound last.Row name variables names nodes' unknowns entries' output points
-  IsSound-row front node row nodes' entries' split rows some is room more_nodes more_entries =
+  pub IsSound-row : (front : List Node) (node : Node) (row : SparseRow) (nodes' : List Node) (entries' : ℕ) → nodes ≡ front ++ node ∷ [] → is_asked stood ≡ false → has_rows stood ≡ true → 1 ≤ length row.columns → IsSparseRow unknowns row → entries + length row.columns ≤ 65536 → nodes' ≡ front ++ (record { name = node.name; kind = with_row row node.kind; needed = node.needed }) ∷ [] → entries' ≡ entries + length row.columns → IsSound last.Row name variables names nodes' unknowns entries' output points
+  IsSound-row front node row nodes' entries' split unasked rows some is room more_nodes more_entries =
       let next : Node = record { name = node.name; kind = with_row row node.kind; needed = node.needed } in
       let inputs : has_input stood ≡ true = input_with_rows stood rows in
       let has : HasRow unknowns (entries + length row.columns) node.kind (with_row row node.kind) = has_row unknowns entries row node.kind (sound.opened rows front node split) some is room in
@@ -380,13 +411,14 @@ module _ (stood : Last) (name : Option (List ℕ)) (variables : Names) (names : 
       let P : List Node → ℕ → Type 0 = λ ms e. IsSound last.Row name variables names ms unknowns e output points in
       let made : P (front ++ next ∷ []) (entries + length row.columns) = record {
         has_graph = λ e. sound.has_graph (named_with_input stood inputs);
+        no_graph = λ e. cc;
         named = sound.named;
         inputs = λ e. sound.inputs inputs;
         listed = sound.listed;
         few = sound.few;
         ended = λ e. cc;
         no_node = λ e. cc;
-        no_point = λ e. cc;
+        no_point = λ e. sound.no_point unasked;
         names_are = map-append (λ (n : Node). n.name) front (next ∷ []) ∙ sym (map-append (λ (n : Node). n.name) front (node ∷ [])) ∙ ap names_of (sym split) ∙ sound.names_are;
         bounded = omega (arith, count, new_count, sound.bounded);
         begun = λ k other at. ⊎_elim
@@ -409,16 +441,17 @@ module _ (stood : Last) (name : Option (List ℕ)) (variables : Names) (names : 
       in
       subst (λ (ms : List Node). P ms entries') (sym more_nodes) (subst (λ (e : ℕ). P (front ++ next ∷ []) e) (sym more_entries) made)
 
-  pub IsSound-output : (given : Source) → has_input stood ≡ true → (stood ≡ last.Sparse → ⊥) → ((k : ℕ) → given ≡ source.Node k → k < length nodes) → IsSound last.Output name variables names nodes unknowns entries (Some given) points
-  IsSound-output given inputs whole within = record {
+  pub IsSound-output : (given : Source) → is_asked stood ≡ false → has_input stood ≡ true → (stood ≡ last.Sparse → ⊥) → ((k : ℕ) → given ≡ source.Node k → k < length nodes) → IsSound last.Output name variables names nodes unknowns entries (Some given) points
+  IsSound-output given unasked inputs whole within = record {
     has_graph = λ e. sound.has_graph (named_with_input stood inputs);
+    no_graph = λ e. cc;
     named = sound.named;
     inputs = λ e. sound.inputs inputs;
     listed = sound.listed;
     few = sound.few;
     ended = λ e is. cc;
     no_node = λ e. cc;
-    no_point = λ e. cc;
+    no_point = λ e. sound.no_point unasked;
     names_are = sound.names_are;
     bounded = sound.bounded;
     begun = sound.begun;
@@ -436,6 +469,7 @@ module _ (stood : Last) (name : Option (List ℕ)) (variables : Names) (names : 
   pub IsSound-job : is_ended stood ≡ true → IsSound last.Job name variables names nodes unknowns entries output points
   IsSound-job has_end = record {
     has_graph = λ e. sound.has_graph (named_with_input stood (input_with_output stood has_end));
+    no_graph = λ e. cc;
     named = sound.named;
     inputs = λ e. sound.inputs (input_with_output stood has_end);
     listed = sound.listed;
@@ -462,6 +496,7 @@ module _ (stood : Last) (name : Option (List ℕ)) (variables : Names) (names : 
       let inputs : has_input stood ≡ true = input_with_output stood has_end in
       let whole : IsSound last.Job name variables names nodes unknowns entries output (points ++ point ∷ []) = record {
         has_graph = λ e. sound.has_graph (named_with_input stood inputs);
+        no_graph = λ e. cc;
         named = sound.named;
         inputs = λ e. sound.inputs inputs;
         listed = sound.listed;

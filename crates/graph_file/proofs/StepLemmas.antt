@@ -1,5 +1,6 @@
 -- What a reader keeps fits together after one more line.
-use Rattle.std.proofs.Common.{◌≡◌, ◌≤◌, ◌<◌, ◌+◌, ◌∙◌, ℕ, true, false, List, [], ◌∷◌, ◌++◌, length, Option, Some, None, All, refl, sym, ap, subst, arith}
+use Rattle.std.proofs.Common.{◌≡◌, ◌≤◌, ◌<◌, ◌+◌, ◌∙◌, ℕ, true, false, List, [], ◌∷◌, ◌++◌, length, Some, None, All, refl, sym, ap, subst, arith, bytes_eq}
+use Rattle.std.specs.List.{list_any}
 use Rattle.elim_core.specs.Sparse.{IsSparseRow}
 use Rattle.elim_core.specs.declared.SparseRow.{SparseRow}
 use Rattle.ratfun_text.specs.Names.{names_of as variables_of, last_argument}
@@ -10,11 +11,9 @@ use Rattle.ratfun_text.specs.declared.names.Names.TheVariants.{Listed}
 use Rattle.graph_file.specs.declared.graph.Node.{Node as NodeOf}
 use Rattle.graph_file.specs.declared.graph.NodeKind.{NodeKind}
 use Rattle.graph_file.specs.declared.graph.Source.{Source}
-use Rattle.graph_file.specs.declared.graph.Source.TheVariants as source
 use Rattle.graph_file.specs.declared.line.Degrees.{Degrees}
 use Rattle.graph_file.specs.declared.line.Last.{Last}
 use Rattle.graph_file.specs.declared.line.Last.TheVariants as last
-use Rattle.graph_file.specs.declared.line.Line.{Line}
 use Rattle.graph_file.specs.declared.line.Line.TheVariants.{Graph, Input, Node, Row, Output, Point, Bounds, Coeff}
 use Rattle.graph_file.specs.declared.line.Statement.{Statement}
 use Rattle.graph_file.specs.declared.line.Which.{Which}
@@ -24,17 +23,24 @@ use Rattle.graph_file.specs.Faults.{names_for}
 use Rattle.graph_file.specs.Formed.{IsFormed}
 use Rattle.graph_file.specs.Line.{texts_of}
 use Rattle.graph_file.specs.Read.{IsNextTo}
-use Rattle.graph_file.specs.Reader.{AreVariables, IsOpen, IsSound, has_name, has_input, has_rows, is_ended, kind_stood, kind_unknowns}
+use Rattle.graph_file.specs.Reader.{AreVariables, IsOpen, IsSound, has_name, has_input, is_ended, kind_stood, kind_unknowns}
 use Rattle.graph_file.specs.Says.{AreTrees, kind_of, source_named, with_row}
 use Rattle.graph_file.proofs.KindLemmas.{kind_is_of, source-earlier}
-use Rattle.graph_file.proofs.Passes.{graph-passed, point-passed, room-passed, row-passed, stands-bounds, stands-coeff, stands-graph, stands-input, stands-node, stands-output, stands-point, stands-row, variables-passed, whole-node, whole-output}
+use Rattle.graph_file.proofs.Passes.{graph-passed, graphs-passed, point-passed, room-passed, row-passed, stands-bounds, stands-coeff, stands-input, stands-node, stands-output, stands-point, stands-row, unasked-behind, variables-passed, whole-node, whole-output}
 use Rattle.graph_file.proofs.SoundLemmas.{IsSound-graph, IsSound-input, IsSound-job, IsSound-node, IsSound-output, IsSound-point, IsSound-row, input_with_output}
 use Rattle.graph_file.proofs.TakeLemmas.{names_count, node-few, node-new, node-sound, passed, stands-next, variables-kept}
 
 module _ (reader : Reader) where
-  pub graph-fits : (name : List ℕ) (none : Names) (no_names : List (List ℕ)) (no_nodes : List NodeOf) → ((most : ℕ) × IsFormed most (Graph name)) → IsNextTo reader (Graph name) → none ≡ Listed [] → no_names ≡ [] → no_nodes ≡ [] → IsSound last.Graph (Some name) none no_names no_nodes 0 0 None reader.asked.points
-  graph-fits name none no_names no_nodes formed next =
-      IsSound-graph _ _ _ _ _ _ _ _ _ next.read.sound name none no_names no_nodes (stands-graph reader.stood name (stands-next reader (Graph name) next)) formed.1 (graph-passed _ name (passed reader (Graph name) next))
+  pub graph-fits : (name : List ℕ) (none : Names) (no_names : List (List ℕ)) (no_nodes : List NodeOf) (points : List (List ℕ)) → ((most : ℕ) × IsFormed most (Graph name)) → IsNextTo reader (Graph name) → none ≡ Listed [] → no_names ≡ [] → no_nodes ≡ [] → points ≡ reader.asked.points → IsSound last.Graph (Some name) none no_names no_nodes 0 0 None points
+  graph-fits name none no_names no_nodes points formed next none_is names_are nodes_are same =
+      subst (IsSound last.Graph (Some name) none no_names no_nodes 0 0 None) (sym same)
+      (IsSound-graph _ _ _ _ _ _ _ _ _ next.read.sound name none no_names no_nodes (unasked-behind reader.stood (Graph name) refl (stands-next reader (Graph name) next)) formed.1 (graph-passed _ name (passed reader (Graph name) next)) none_is names_are nodes_are)
+
+  pub graph-room : (name : List ℕ) → IsNextTo reader (Graph name) → length reader.graph_names.names < 64
+  graph-room name next = subst (λ (l : List (List ℕ)). length l < 64) (sym next.read.graphs_are.names_are) (graphs-passed next.earlier name (passed reader (Graph name) next))
+
+  pub graph-new : (name : List ℕ) → IsNextTo reader (Graph name) → list_any (λ other. bytes_eq other name) reader.graph_names.names ≡ false
+  graph-new name next = ap (list_any (λ other. bytes_eq other name)) next.read.graphs_are.names_are ∙ (passed reader (Graph name) next).is_new
 
   pub input-fits : (names : List (List ℕ)) → ((most : ℕ) × IsFormed most (Input names)) → IsNextTo reader (Input names) → IsSound last.Input reader.name (Listed names) reader.table.names reader.nodes.items reader.unknowns reader.entries reader.output reader.asked.points
   input-fits names formed next =
@@ -50,12 +56,12 @@ module _ (reader : Reader) where
       let small : unknowns_in next.earlier ≤ 4096 = subst (λ (n : ℕ). n ≤ 4096) next.read.unknowns_are next.read.sound.few_unknowns in
       let over : IsSparseRow reader.unknowns row = subst (λ (n : ℕ). IsSparseRow n row) (sym next.read.unknowns_are) (row-passed next.earlier columns (passed reader (Row columns) next) small formed.1.1).0 in
       let room : reader.entries + length columns ≤ 65536 = subst (λ (n : ℕ). n + length columns ≤ 65536) (sym next.read.entries_are) (row-passed next.earlier columns (passed reader (Row columns) next) small formed.1.1).1 in
-      IsSound-row _ _ _ _ reader.nodes.items reader.unknowns reader.entries _ _ next.read.sound front node row nodes' entries' split (stands-row reader.stood columns (stands-next reader (Row columns) next)) formed.1.0 over room more_nodes more_entries
+      IsSound-row _ _ _ _ reader.nodes.items reader.unknowns reader.entries _ _ next.read.sound front node row nodes' entries' split (unasked-behind reader.stood (Row columns) refl (stands-next reader (Row columns) next)) (stands-row reader.stood columns (stands-next reader (Row columns) next)) formed.1.0 over room more_nodes more_entries
 
   pub output-fits : (list : List ℕ) (output : Source) → IsNextTo reader (Output list) → source_named reader.table.names list ≡ Some output → IsSound last.Output reader.name reader.variables reader.table.names reader.nodes.items reader.unknowns reader.entries (Some output) reader.asked.points
   output-fits list output next is =
       let stands = stands-next reader (Output list) next in
-      IsSound-output _ _ _ _ reader.nodes.items _ _ _ _ next.read.sound output (stands-output reader.stood list stands) (whole-output reader.stood list stands) (λ k same.
+      IsSound-output _ _ _ _ reader.nodes.items _ _ _ _ next.read.sound output (unasked-behind reader.stood (Output list) refl stands) (stands-output reader.stood list stands) (whole-output reader.stood list stands) (λ k same.
       let below : k < length reader.table.names = source-earlier reader.table.names list k (is ∙ ap (λ (s : Source). Some s) same) in
       omega (arith, below, names_count reader next.read.sound))
 
@@ -79,4 +85,4 @@ module _ (reader : Reader) where
   pub node-fits : (name : List ℕ) (statement : Statement) (exprs : List Expr) (kind : NodeKind) (stood' : Last) (names' : List (List ℕ)) (nodes' : List NodeOf) (unknowns' : ℕ) → ((most : ℕ) × IsFormed most (Node name statement)) → IsNextTo reader (Node name statement) → kind_of reader.table.names exprs statement ≡ Some kind → AreTrees (names_for reader.variables statement) (texts_of statement) exprs → All (λ expr. greatest expr ≤ last_argument (names_for reader.variables statement)) exprs → stood' ≡ kind_stood kind → names' ≡ reader.table.names ++ name ∷ [] → nodes' ≡ reader.nodes.items ++ (record { name = name; kind = kind; needed = false }) ∷ [] → unknowns' ≡ kind_unknowns kind → IsSound stood' reader.name reader.variables names' nodes' unknowns' 0 reader.output reader.asked.points
   node-fits name statement exprs kind stood' names' nodes' unknowns' formed next is trees arguments more_stood more_names more_nodes more_unknowns =
       let stands = stands-next reader (Node name statement) next in
-      IsSound-node _ _ _ _ reader.nodes.items _ _ _ _ next.read.sound (record { name = name; kind = kind; needed = false }) stood' names' nodes' unknowns' (stands-node reader.stood name statement stands) (whole-node reader.stood name statement stands) (node-few reader name statement next) (node-new reader name statement next) (node-sound reader name statement next exprs kind formed is trees arguments) (kind_is_of reader.table.names exprs statement kind is).no_rows more_stood more_names more_nodes more_unknowns
+      IsSound-node _ _ _ _ reader.nodes.items _ _ _ _ next.read.sound (record { name = name; kind = kind; needed = false }) stood' names' nodes' unknowns' (unasked-behind reader.stood (Node name statement) refl stands) (stands-node reader.stood name statement stands) (whole-node reader.stood name statement stands) (node-few reader name statement next) (node-new reader name statement next) (node-sound reader name statement next exprs kind formed is trees arguments) (kind_is_of reader.table.names exprs statement kind is).no_rows more_stood more_names more_nodes more_unknowns

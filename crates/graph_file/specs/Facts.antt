@@ -6,6 +6,12 @@ use Rattle.graph_file.specs.declared.line.Line.TheVariants.{Graph, Input, Node, 
 use Rattle.graph_file.specs.declared.line.Statement.{Statement}
 use Rattle.graph_file.specs.declared.line.Statement.TheVariants.{Sparse}
 
+-- the names of the graphs, in the order of the file
+abbrev pub graph_names_in : List Line → List (List ℕ)
+graph_names_in [] = []
+graph_names_in (Graph name ∷ before) = graph_names_in before ++ name ∷ []
+graph_names_in (_ ∷ before) = graph_names_in before
+
 -- the variables of the graph whose `graph` line stood last
 abbrev pub variables_in : List Line → List (List ℕ)
 variables_in [] = []
@@ -53,7 +59,7 @@ is_job_line (Bounds outputs num den) = true
 is_job_line (Coeff num den) = true
 is_job_line _ = false
 
--- the line that stood last is the graph's `output`, or a line of the job
+-- the line that stood last is the last graph's `output`, or a line of the job
 abbrev pub has_output : List Line → Bool
 has_output [] = false
 has_output (Output list ∷ before) = true

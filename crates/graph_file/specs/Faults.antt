@@ -24,7 +24,7 @@ use Rattle.ray_grid.specs.Grid.{point_count}
 use Rattle.ray_grid.specs.declared.grid.Grid.{Grid}
 use Rattle.multivar_recon.specs.Covering.{monomial_count}
 use Rattle.graph_file.specs.Bounding.{all_in, bounds_given, bounds_said, coeff_in, grid_with, special_in, widest}
-use Rattle.graph_file.specs.Facts.{entries_in, is_job_line, node_names_in, points_in, unknowns_in, variables_in}
+use Rattle.graph_file.specs.Facts.{entries_in, graph_names_in, is_job_line, node_names_in, points_in, unknowns_in, variables_in}
 use Rattle.graph_file.specs.Line.{texts_in}
 
 -- rows follow the line of a sparse node
@@ -61,6 +61,7 @@ may_follow (Graph name) line = is_input_line line
 may_follow (Input names) line = goes_on line
 may_follow (Node name statement) line = if takes_rows statement then is_row_line line else goes_on line
 may_follow (Row columns) line = is_row_line line || goes_on line
+may_follow (Output list) line = is_graph_line line || is_job_line line
 may_follow _ line = is_job_line line
 
 -- which line may stand behind these: the first is `flow`, and each later one may follow the one before it
@@ -101,9 +102,10 @@ abbrev pub is_given : Option BoundsOf → List Special → Which → Bool
 is_given all special which.All = is_some all
 is_given all special (which.Output output) = list_any (λ own. own.output == output) special
 
--- a variable has the name of another of this line, or a node that of an earlier node, or `input`; or bounds for the same
--- outputs were given, or bounds for coefficients
+-- a graph has the name of an earlier one, a variable that of another of this line, or a node that of an earlier node of its
+-- graph, or `input`; or bounds for the same outputs were given, or bounds for coefficients
 abbrev pub is_repeated : List Line → Line → Bool
+is_repeated earlier (Graph name) = list_any (λ other. bytes_eq other name) (graph_names_in earlier)
 is_repeated earlier (Input names) = not (are_new [] names)
 is_repeated earlier (Node name statement) = is_known (node_names_in earlier) name
 is_repeated earlier (Bounds outputs num den) = is_given (all_in earlier) (special_in earlier) outputs
@@ -217,10 +219,10 @@ are_bounds earlier outputs num den = are_numbers outputs num den && has_few (len
 abbrev pub is_coeff : ℕ → ℕ → Bool
 is_coeff num den = nat_le 1 num && nat_le 1 den && nat_lt (2 * (num * den)) both
 
--- a name is too long, a number out of its range, or there are more than 8 variables, 4096 nodes, 65536 entries of a
--- sparse node, 65536 points, 1024 monomials of one output's bounds or 65536 points of the grid
+-- a name is too long, a number out of its range, or there are more than 64 graphs, 8 variables, 4096 nodes, 65536
+-- entries of a sparse node, 65536 points, 1024 monomials of one output's bounds or 65536 points of the grid
 abbrev pub is_limit : List Line → Line → Bool
-is_limit earlier (Graph name) = not (is_short name)
+is_limit earlier (Graph name) = not (is_short name && nat_lt (length (graph_names_in earlier)) 64)
 is_limit earlier (Input names) = not (list_all is_short names && nat_le (length names) 8)
 is_limit earlier (Node name statement) = not (is_short name && nat_lt (length (node_names_in earlier)) 4096 && is_in_range statement)
 is_limit earlier (Row columns) = not (are_columns (unknowns_in earlier) columns && nat_le (entries_in earlier + length columns) 65536)

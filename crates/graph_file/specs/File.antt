@@ -35,7 +35,7 @@ pub record IsBadAt (all : List (List ℕ)) (place : ℕ) (kind : FileKind) : Typ
 abbrev pub AreGood : List (List ℕ) → ℕ → Type 0
 AreGood all count = (place : ℕ) → place < count → IsGoodAt all place
 
--- the lines have the graph's output, and where the file is read for functions, bounds for every output
+-- the lines have the last graph's output, and where the file is read for functions, bounds for every output
 abbrev pub is_complete : Need → List Line → Bool
 is_complete Points all = has_output all
 is_complete Learning all = has_output all

@@ -18,3 +18,4 @@ pub mod Reader
 pub mod Says
 pub mod Sound
 pub mod Table
+pub mod Whole

@@ -1,29 +1,51 @@
 -- What is kept of lines is what they say.
-use Rattle.std.specs.Prelude.{ℕ, ◌≡◌, ◌+◌, true, List, [], ◌∷◌, take, Option, Some, None, Result, Ok, Err, ⊤}
+use Rattle.std.specs.Prelude.{ℕ, ◌≡◌, ◌+◌, ◌-◌, ◌≤◌, true, List, [], ◌∷◌, length, take, slice_get, Option, Some, None, Result, Ok, Err, ⊤}
 use Rattle.ratfun_text.specs.declared.names.Names.TheVariants.{Listed}
 use Rattle.graph_file.specs.declared.error.FileError.{FileError}
 use Rattle.graph_file.specs.declared.error.FileKind.{FileKind}
 use Rattle.graph_file.specs.declared.error.FileKind.TheVariants as kind
 use Rattle.graph_file.specs.declared.job.Need.{Need}
+use Rattle.graph_file.specs.declared.graph.Graph.{Graph}
 use Rattle.graph_file.specs.declared.line.Line.{Line}
 use Rattle.graph_file.specs.declared.reader.Reader.{Reader}
 use Rattle.graph_file.specs.Bounding.{all_in, bounds_given, coeff_in, special_in, widest}
-use Rattle.graph_file.specs.Facts.{entries_in, node_names_in, points_in, unknowns_in, variables_in}
+use Rattle.graph_file.specs.Facts.{entries_in, graph_names_in, node_names_in, points_in, unknowns_in, variables_in}
 use Rattle.graph_file.specs.Faults.{IsBadLine, IsGoodLine, fault_after}
-use Rattle.graph_file.specs.Reader.{IsSound, last_of}
+use Rattle.graph_file.specs.Reader.{AreDistinct, IsSound, last_of}
 use Rattle.graph_file.specs.Formed.{IsFormed}
 use Rattle.graph_file.specs.File.{IsBadAt, IsFirstBad, IsGoodAt, IsGoodFile, is_complete, said}
 use Rattle.graph_file.specs.Lines.{lines}
 use Rattle.graph_file.specs.Needed.{kinds_of}
-use Rattle.graph_file.specs.Says.{AreKinds, graph_name_in, output_in}
+use Rattle.graph_file.specs.Says.{AreKinds, SaysGraph, graph_name_in, lines_through, output_in}
+use Rattle.graph_file.specs.Sound.{IsGraph}
 
 -- what the reader keeps fits together
 abbrev pub FitsTogether : Reader → Type 0
 FitsTogether reader = IsSound reader.stood reader.name reader.variables reader.table.names reader.nodes.items reader.unknowns reader.entries reader.output reader.asked.points
 
+-- these are sound graphs, as these lines say, the last of which stands first: the first of them, in the order of the file
+pub record AreFirst (earlier : List Line) (graphs : List Graph) : Type 0 where
+  pub said : (k : ℕ) (graph : Graph) → slice_get graphs k ≡ Some graph → SaysGraph (lines_through k earlier) graph
+  pub sound : (k : ℕ) (graph : Graph) → slice_get graphs k ≡ Some graph → IsGraph graph
+  pub named : (k : ℕ) (graph : Graph) → slice_get graphs k ≡ Some graph → slice_get (graph_names_in earlier) k ≡ Some graph.name
+
+-- the graphs before the one in hand are these, and all graphs have these names
+pub record AreBehind (earlier : List Line) (names : List (List ℕ)) (graphs : List Graph) : Type 0 where
+  pub names_are : names ≡ graph_names_in earlier
+  pub distinct : AreDistinct names
+  pub few : length names ≤ 64
+  pub counted : length graphs ≡ length names - 1
+  pub first : AreFirst earlier graphs
+
+-- all graphs of these lines are these
+pub record AreAll (earlier : List Line) (graphs : List Graph) : Type 0 where
+  pub counted : length graphs ≡ length (graph_names_in earlier)
+  pub first : AreFirst earlier graphs
+
 -- the reader keeps what these lines say, the last of which stands first, and that fits together
 pub record IsRead (earlier : List Line) (reader : Reader) : Type 0 where
   pub last_is : reader.stood ≡ last_of earlier
+  pub graphs_are : AreBehind earlier reader.graph_names.names reader.graphs
   pub name_is : reader.name ≡ graph_name_in earlier
   pub variables_are : reader.variables ≡ Listed (variables_in earlier)
   pub names_are : reader.table.names ≡ node_names_in earlier

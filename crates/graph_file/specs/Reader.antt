@@ -47,7 +47,7 @@ stands_behind last.Input line = goes_on line
 stands_behind last.Node line = goes_on line
 stands_behind last.Sparse line = is_row_line line
 stands_behind last.Row line = is_row_line line || goes_on line
-stands_behind last.Output line = is_job_line line
+stands_behind last.Output line = is_graph_line line || is_job_line line
 stands_behind last.Job line = is_job_line line
 
 -- the graph has its output
@@ -55,6 +55,11 @@ abbrev pub is_ended : Last → Bool
 is_ended last.Output = true
 is_ended last.Job = true
 is_ended _ = false
+
+-- a line of the job stood last
+abbrev pub is_asked : Last → Bool
+is_asked last.Job = true
+is_asked _ = false
 
 -- the graph has its name
 abbrev pub has_name : Last → Bool
@@ -136,13 +141,14 @@ pub record IsBegunNode (variables number : ℕ) (node : Node) : Type 0 where
 -- what is kept fits together, and is what a job may have
 pub record IsSound (stood : Last) (name : Option (List ℕ)) (variables : Names) (names : List (List ℕ)) (nodes : List Node) (unknowns entries : ℕ) (output : Option Source) (points : List (List ℕ)) : Type 0 where
   pub has_graph : has_name stood ≡ true → name ≢ None
+  pub no_graph : has_name stood ≡ false → name ≡ None
   pub named : (given : List ℕ) → name ≡ Some given → IsTrue (is_name given) × (length given ≤ 32)
   pub inputs : has_input stood ≡ true → AreVariables (variables_of variables)
   pub listed : variables ≡ Listed (variables_of variables)
   pub few : length (variables_of variables) ≤ 8
   pub ended : is_ended stood ≡ true → output ≢ None
   pub no_node : has_input stood ≡ false → nodes ≡ []
-  pub no_point : has_input stood ≡ false → points ≡ []
+  pub no_point : is_asked stood ≡ false → points ≡ []
   pub names_are : names_of nodes ≡ names
   pub bounded : length nodes ≤ 4096
   pub begun : (k : ℕ) (node : Node) → slice_get nodes k ≡ Some node → IsBegunNode (length (variables_of variables)) k node

@@ -1,5 +1,5 @@
 -- What a file says, in which nothing is wrong.
-use Rattle.std.specs.Prelude.{ℕ, ◌≡◌, ◌↔◌, IsTrue, if◌then◌else◌, List, [], ◌∷◌, ◌++◌, map, position, Option, Some, None, option_and_then, option_map, unwrap_or, bytes_eq, codes, slice_get}
+use Rattle.std.specs.Prelude.{ℕ, ◌≡◌, ◌+◌, ◌↔◌, IsTrue, nat_le, if◌then◌else◌, List, [], ◌∷◌, ◌++◌, length, map, position, Option, Some, None, option_and_then, option_map, unwrap_or, bytes_eq, codes, slice_get}
 use Rattle.std.specs.List.{AllZip, range_with_len}
 use Rattle.elim_core.specs.declared.SparseRow.{SparseRow}
 use Rattle.ratfun_text.specs.Grammar.{IsTreeOf}
@@ -26,7 +26,7 @@ use Rattle.ray_grid.specs.declared.grid.Grid.{Grid}
 use Rattle.graph_file.specs.declared.job.Special.{Special}
 use Rattle.graph_file.specs.Bounded.{main_variables}
 use Rattle.graph_file.specs.Bounding.{all_in, bounds_among, bounds_given, coeff_in, coeff_or, grid_with, no_bounds, special_in, widest}
-use Rattle.graph_file.specs.Facts.{node_names_in, points_in, variables_in}
+use Rattle.graph_file.specs.Facts.{graph_names_in, node_names_in, points_in, variables_in}
 use Rattle.graph_file.specs.Faults.{names_in}
 use Rattle.graph_file.specs.File.{said}
 use Rattle.graph_file.specs.Line.{all_of, texts_in}
@@ -132,7 +132,7 @@ output_in (_ ∷ before) = output_in before
 abbrev pub names_of : List Node → List (List ℕ)
 names_of nodes = map (λ node. node.name) nodes
 
--- what lines say of their graph
+-- what lines say of the graph whose `graph` line stood last
 pub record SaysGraph (all : List Line) (graph : Graph) : Type 0 where
   pub named : graph_name_in all ≡ Some graph.name
   pub inputs : graph.inputs ≡ variables_in all
@@ -140,6 +140,11 @@ pub record SaysGraph (all : List Line) (graph : Graph) : Type 0 where
   pub kinds : AreKinds all (kinds_of graph.nodes)
   pub output_is : output_in all ≡ Some graph.output
   pub marks : (k : ℕ) (node : Node) → slice_get graph.nodes k ≡ Some node → IsTrue node.needed ↔ IsNeeded graph k
+
+-- these lines up to the last one of the graph with this number, counted from 0
+abbrev pub lines_through : ℕ → List Line → List Line
+lines_through k [] = []
+lines_through k (line ∷ before) = if nat_le (length (graph_names_in (line ∷ before))) (k + 1) then line ∷ before else lines_through k before
 
 -- what a job says
 pub record FileForm : Type 0 where
@@ -162,9 +167,8 @@ grid_of what = grid_with (main_variables what.graphs) (widest (bounds_given what
 
 -- a file that is read for this says this
 pub record Says (need : Need) (bytes : List ℕ) (what : FileForm) : Type 0 where
-  pub graph : Graph
-  pub only : what.graphs ≡ graph ∷ []
-  pub says_graph : SaysGraph (said (lines bytes)) graph
+  pub counted : length what.graphs ≡ length (graph_names_in (said (lines bytes)))
+  pub says_graph : (k : ℕ) (graph : Graph) → slice_get what.graphs k ≡ Some graph → SaysGraph (lines_through k (said (lines bytes))) graph
   pub points_are : what.points ≡ points_in (said (lines bytes))
   pub all_is : what.all ≡ all_in (said (lines bytes))
   pub special_are : what.special ≡ special_in (said (lines bytes))

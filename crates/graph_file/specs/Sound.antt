@@ -134,11 +134,12 @@ pub record IsGraph (graph : Graph) : Type 0 where
   pub marks : (k : ℕ) (node : Node) → slice_get graph.nodes k ≡ Some node → IsMarked graph k node
   pub output : (k : ℕ) → graph.output ≡ source.Node k → k < length graph.nodes
 
--- there are 1 to 64 graphs and at most 65536 points, each graph is sound, and each point has an entry for each variable
--- of the last graph
+-- there are 1 to 64 graphs with distinct names and at most 65536 points, each graph is sound, and each point has an entry
+-- for each variable of the last graph
 pub record IsJob (graphs : List Graph) (points : List (List ℕ)) : Type 0 where
   pub main : 1 ≤ length graphs
   pub bounded : length graphs ≤ 64
   pub few_points : length points ≤ 65536
   pub graph : (k : ℕ) (graph : Graph) → slice_get graphs k ≡ Some graph → IsGraph graph
+  pub distinct : (i j : ℕ) (first second : Graph) → slice_get graphs i ≡ Some first → slice_get graphs j ≡ Some second → first.name ≡ second.name → i ≡ j
   pub entries : (k : ℕ) (point : List ℕ) (graph : Graph) → slice_get points k ≡ Some point → slice_get graphs (length graphs - 1) ≡ Some graph → length point ≡ length graph.inputs

@@ -12,7 +12,8 @@ pub enum FileKind {
     /// The file has another version than 1.
     #[error("version")]
     Version,
-    /// A name, bounds for the same outputs or bounds for coefficients are given again.
+    /// The name of a graph, of a node of the graph or of a variable of the line, bounds for the same outputs or bounds for
+    /// coefficients are given again.
     #[error("repeated")]
     Repeated,
     /// No earlier node of the graph has the name, which isn't `input` either.
@@ -27,7 +28,7 @@ pub enum FileKind {
     /// The expression with this number, counted from 1, is refused.
     #[error("expression {expression} {error}")]
     Expr { expression: u32, error: ExprError },
-    /// The file ends before the output of its graph, or where it is read for functions, without bounds for every output.
+    /// The file ends before the output of its last graph, or where it is read for functions, without bounds for every output.
     #[error("missing")]
     Missing,
     /// There was no memory left.

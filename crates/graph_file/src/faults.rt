@@ -22,6 +22,9 @@ use std::alloc::{AllocError, Global};
 /// The most bytes of a name that a line gives.
 const NAME_BYTES: usize = 32;
 
+/// The most graphs of a file.
+const GRAPHS: usize = 64;
+
 /// The most variables of a graph.
 const VARIABLES: usize = 8;
 
@@ -70,7 +73,7 @@ fn may_stand(stood: Last, line: &Line) -> bool
 {
     match (stood, line) {
         (Last::Start, Line::Flow(_))
-        | (Last::Flow, Line::Graph(_))
+        | (Last::Flow | Last::Output, Line::Graph(_))
         | (Last::Graph, Line::Input(_))
         | (Last::Input | Last::Node | Last::Row, Line::Node(_, _) | Line::Output(_))
         | (Last::Sparse | Last::Row, Line::Row(_))
@@ -137,6 +140,7 @@ fn is_repeated(reader: &Reader, line: &Line) -> Result<bool, AllocError>
     ensures { IfOk result (λ is_repeated. (earlier : List LineOf) → IsRead earlier reader.now → is_repeated ≡ spec.is_repeated earlier line.now) }
 {
     match line {
+        Line::Graph(name) => Ok(reader.graph_names.has(name.bytes())),
         Line::Input(names) => {
             let are_new = are_new(reader.alloc, names.as_slice())?;
             Ok(!are_new)
@@ -413,7 +417,7 @@ fn is_limit(reader: &Reader, line: &Line) -> bool
     ensures { (earlier : List LineOf) → IsRead earlier reader.now → result ≡ spec.is_limit earlier line.now }
 {
     match line {
-        Line::Graph(name) => !is_short(name.bytes()),
+        Line::Graph(name) => !(is_short(name.bytes()) && reader.graph_names.len() < GRAPHS),
         Line::Input(names) => !(are_short(names.as_slice()) && names.len() <= VARIABLES),
         Line::Node(name, statement) => !(is_short(name.bytes())
             && reader.table.len() < NODES

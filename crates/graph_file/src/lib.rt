@@ -20,6 +20,7 @@ mod reader;
 mod table;
 #[cfg(test)]
 mod tests;
+mod whole;
 
 pub use error::{FileError, FileKind};
 pub use graph::{Graph, Node, NodeKind, Source};

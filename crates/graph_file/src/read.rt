@@ -1,7 +1,5 @@
 //! From the bytes of a file to what it asks for.
 ghost use Rattle.std.specs.Prelude.{◌≡◌, ◌≤◌, ℕ, List, Some, true, length, take, slice_get, IfErr, IfOk};
-ghost use Rattle.ratfun_text.specs.declared.names.Names.TheVariants.{Listed};
-ghost use Rattle.ratfun_text.specs.Names.{names_of as variables_of};
 ghost use Rattle.graph_file.specs.declared.line.Line.{Line as LineOf};
 ghost use Rattle.graph_file.specs.File as spec;
 ghost use Rattle.graph_file.specs.File.{IsGoodFile, said};
@@ -11,14 +9,10 @@ ghost use Rattle.graph_file.specs.Says.{Says, form};
 
 use crate::asked::coeff_or;
 use crate::error::{FileError, FileKind};
-use crate::graph::Graph;
 use crate::job::{Job, Need};
 use crate::line::Last;
 use crate::lines::{cut, is_passed_over};
-use crate::needed::{marked_nodes, marks};
 use crate::reader::Reader;
-use ratfun_text::{Name, Names};
-use sqlite_items::Items;
 use std::alloc::{AllocError, Global};
 
 /// Whether the line at this place, counted from 0, is passed over.
@@ -92,42 +86,15 @@ fn read_lines(alloc: Global, bytes: &[u8], need: Need) -> Result<Reader, FileErr
     Ok(reader)
 }
 
-fn listed(variables: Names) -> Items<Name>
-    requires { variables ≡ Listed (variables_of variables) }
-    ensures { result ≡ variables_of variables }
-{
-    let Names::Listed(names) = variables else {
-        unreachable!()
-    };
-    names
-}
-
 /// The job that the lines ask for.
 fn finish(reader: Reader, need: Need) -> Result<Job, AllocError>
     requires { KeepsFile need reader }
     ensures said { IfOk result (λ job. (bytes : List ℕ) → IsRead (said (spec_lines.lines bytes)) reader → Says need bytes (form job)) }
     ensures need { IfOk result (λ job. job.need ≡ need) }
 {
-    let Reader {
-        alloc,
-        name,
-        variables,
-        nodes,
-        output,
-        asked,
-        ..
-    } = reader;
-    let Some(name) = name else { unreachable!() };
-    let Some(output) = output else { unreachable!() };
-    let flags = marks(alloc, nodes.as_slice(), output)?;
-    let nodes = marked_nodes(nodes, flags.as_slice());
-    let mut graphs = Items::new(alloc);
-    graphs.push(Graph {
-        name,
-        inputs: listed(variables),
-        nodes: Items::from_vec(nodes),
-        output,
-    })?;
+    let mut reader = reader;
+    reader.finish_graph()?;
+    let Reader { graphs, asked, .. } = reader;
     Ok(Job {
         graphs,
         points: asked.points,
@@ -140,8 +107,9 @@ fn finish(reader: Reader, need: Need) -> Result<Job, AllocError>
 
 /// Reads the file with these bytes.
 ///
-/// A file has the line `flow 1`, then `graph NAME`, `input NAME ..`, any number of lines `node NAME KIND ..`, the line
-/// `output LIST`, and any number of lines of the job: `point NUM ..`, `bounds WHICH num NUM .. den NUM ..` and
+/// A file has the line `flow 1`, then one graph or more, and any number of lines of the job. A graph has the lines `graph
+/// NAME` and `input NAME ..`, any number of lines `node NAME KIND ..`, and the line `output LIST`. The last graph is the main
+/// graph, of which the lines of the job speak: `point NUM ..`, `bounds WHICH num NUM .. den NUM ..` and
 /// `coeff NUM NUM`. Behind `num` and `den` stands a total degree, and then nothing or one degree for each variable; WHICH is
 /// `all` or the number of an output. Where the file is read for functions it has bounds for all. Lines of blanks and
 /// lines that begin with `#` are passed over, but not as line 1. The kinds of nodes are `eval LIST = EXPR ; ..`, `take

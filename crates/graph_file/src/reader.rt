@@ -1,5 +1,5 @@
 //! The lines of a file, read one after the other.
-ghost use Rattle.std.specs.Prelude.{◌≡◌, ◌≤◌, ℕ, List, [], ◌∷◌, All, OnOk, length};
+ghost use Rattle.std.specs.Prelude.{◌≡◌, ◌≤◌, ℕ, true, List, [], ◌∷◌, All, OnOk, length};
 ghost use Rattle.ratfun_text.specs.Names.{last_argument};
 ghost use Rattle.ratfun_text.specs.Value.{greatest};
 ghost use Rattle.graph_file.specs.declared.line.Line.{Line as LineOf};
@@ -8,19 +8,20 @@ ghost use Rattle.graph_file.specs.Faults.{names_for, names_in};
 ghost use Rattle.graph_file.specs.Formed.{IsFormed};
 ghost use Rattle.graph_file.specs.Line as spec_line;
 ghost use Rattle.graph_file.specs.Line.{texts_in};
-ghost use Rattle.graph_file.specs.Read.{IsNextTo, IsRead, IsReadOn, KeepsGood};
-ghost use Rattle.graph_file.specs.Reader.{IsOpen, kind_stood, kind_unknowns};
+ghost use Rattle.graph_file.specs.Read.{AreAll, FitsTogether, IsNextTo, IsRead, IsReadOn, KeepsGood};
+ghost use Rattle.graph_file.specs.Reader.{IsOpen, has_name, is_ended, kind_stood, kind_unknowns};
 ghost use Rattle.graph_file.specs.Says.{AreTrees, with_row as kind_with_row};
 
 use crate::asked::{Asked, bounds_said, nothing};
 use crate::error::FileKind;
 use crate::exprs::line_expressions;
 use crate::faults::{count, fault};
-use crate::graph::{Node, NodeKind, Source};
+use crate::graph::{Graph, Node, NodeKind, Source};
 use crate::kind::{kind_of, source_named};
 use crate::line::{Degrees, Last, Line, Statement, Which};
 use crate::patterns::line_of;
 use crate::table::Table;
+use crate::whole::whole_graph;
 use elim_core::SparseRow;
 use poly_maps::Point;
 use ratfun_text::{Expr, Name, Names};
@@ -66,14 +67,18 @@ pub struct Reader {
     pub alloc: Global,
     /// Which kind of line stood last.
     pub stood: Last,
-    /// The graph's name.
+    /// The graphs before the last one.
+    pub graphs: Items<Graph>,
+    /// The names of all graphs.
+    pub graph_names: Table,
+    /// The last graph's name.
     pub name: Option<Name>,
-    /// The graph's variables.
+    /// Its variables.
     pub variables: Names,
-    /// The names of the graph's nodes.
+    /// The names of its nodes.
     pub table: Table,
     pub nodes: Vec<Node>,
-    /// The unknowns of the last node, where that is sparse.
+    /// The unknowns of its last node, where that is sparse.
     pub unknowns: u32,
     /// How many entries its rows have so far.
     pub entries: usize,
@@ -90,6 +95,8 @@ impl Reader {
         Reader {
             alloc,
             stood: Last::Start,
+            graphs: Items::new(alloc),
+            graph_names: Table::new(alloc),
             name: None,
             variables: Names::Listed(Items::new(alloc)),
             table: Table::new(alloc),
@@ -109,12 +116,38 @@ impl Reader {
         self.stood = Last::Flow;
     }
 
+    /// Puts the last graph, where there is one, behind the others.
+    pub fn finish_graph(&mut self) -> Result<(), AllocError>
+        requires fits { FitsTogether self.old }
+        requires whole { has_name self.old.stood ≡ true → is_ended self.old.stood ≡ true }
+        ensures graphs { OnOk result ((earlier : List LineOf) → IsRead earlier self.old → AreAll earlier self.new.graphs) }
+        ensures names { OnOk result (self.new.graph_names ≡ self.old.graph_names) }
+        ensures asked { OnOk result (self.new.asked ≡ self.old.asked) }
+    {
+        let name = self.name.take();
+        let Some(name) = name else {
+            return Ok(());
+        };
+        let Some(output) = self.output else {
+            unreachable!()
+        };
+        let variables = replace(&mut self.variables, Names::Listed(Items::new(self.alloc)));
+        let nodes = replace(&mut self.nodes, Vec::new(self.alloc));
+        let graph = whole_graph(self.alloc, name, variables, nodes, output)?;
+        self.graphs.push(graph)?;
+        Ok(())
+    }
+
     /// Takes in `graph NAME`.
-    fn graph(&mut self, name: Name)
+    fn graph(&mut self, name: Name) -> Result<(), AllocError>
         requires formed { (most : ℕ) × IsFormed most (line.Graph name) }
         requires passes { IsNextTo self.old (line.Graph name) }
-        ensures { (earlier : List LineOf) → IsRead earlier self.old → IsRead (line.Graph name ∷ earlier) self.new }
+        ensures { OnOk result ((earlier : List LineOf) → IsRead earlier self.old → IsRead (line.Graph name ∷ earlier) self.new) }
     {
+        self.finish_graph()?;
+        let before = replace(&mut self.graph_names, Table::new(self.alloc));
+        let graph_names = before.with(self.alloc, name.bytes())?;
+        self.graph_names = graph_names;
         self.stood = Last::Graph;
         self.name = Some(name);
         self.variables = Names::Listed(Items::new(self.alloc));
@@ -123,6 +156,7 @@ impl Reader {
         self.unknowns = 0;
         self.entries = 0;
         self.output = None;
+        Ok(())
     }
 
     /// Takes in `input NAME ..`.
@@ -233,10 +267,7 @@ impl Reader {
                 self.flow();
                 Ok(())
             }
-            Line::Graph(name) => {
-                self.graph(name);
-                Ok(())
-            }
+            Line::Graph(name) => self.graph(name),
             Line::Input(names) => {
                 self.input(names);
                 Ok(())

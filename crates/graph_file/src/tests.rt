@@ -283,8 +283,21 @@ fn lines_out_of_form_are_told(rt: HostRuntime) {
             4,
         ),
         (
-            b"flow 1\ngraph main\ninput x\noutput input\ngraph next\n",
+            b"flow 1\ngraph main\ninput x\noutput input\npoint 1\ngraph next\n",
+            6,
+        ),
+        (
+            b"flow 1\ngraph main\ninput x\noutput input\ncoeff 1 1\ngraph next\n",
+            6,
+        ),
+        (b"flow 1\ngraph main\ninput x\ngraph next\n", 4),
+        (
+            b"flow 1\ngraph main\ninput x\nnode a chain input\ngraph next\n",
             5,
+        ),
+        (
+            b"flow 1\ngraph one\ninput x\noutput input\ngraph two\ninput x y\noutput input\npoint 1\n",
+            8,
         ),
         (b"flow 1\ngraph main\ninput x\noutput input \x7f\n", 4),
         (b"flow 1\ngraph main\ninput x y\noutput input\npoint 1\n", 5),
@@ -424,6 +437,36 @@ fn the_first_kind_is_told_at_its_line(rt: HostRuntime) {
             FileKind::Missing,
         ),
         (
+            b"flow 1\ngraph one\ninput x\noutput input\ngraph two\ninput x\n",
+            7,
+            FileKind::Missing,
+        ),
+        (
+            b"flow 1\ngraph one\ninput x\noutput input\ngraph one\n",
+            5,
+            FileKind::Repeated,
+        ),
+        (
+            b"flow 1\ngraph one\ninput x\noutput input\ngraph two\ninput x\noutput input\ngraph one\n",
+            8,
+            FileKind::Repeated,
+        ),
+        (
+            b"flow 1\ngraph one\ninput x\nnode a sum input\noutput a\ngraph two\ninput x\nnode b sum a\n",
+            8,
+            FileKind::UnknownNode,
+        ),
+        (
+            b"flow 1\ngraph one\ninput x\noutput input\ngraph two\ninput x\nnode a sum input\nnode a sum input\n",
+            8,
+            FileKind::Repeated,
+        ),
+        (
+            b"flow 1\ngraph one\ninput x\noutput input\ngraph abcdefghijklmnopqrstuvwxyz0123456\n",
+            5,
+            FileKind::Limit,
+        ),
+        (
             b"flow 1\ngraph main\ninput x\nnode r sparse b 4097\n",
             4,
             FileKind::UnknownNode,
@@ -480,6 +523,58 @@ fn the_first_refused_expression_is_told(rt: HostRuntime) {
     ] {
         assert!(rt; is_refused(&rt, rt.alloc(), bytes, 4, kind));
     }
+}
+
+#[test]
+fn graphs_are_read_with_their_own_names(rt: HostRuntime) -> Result<(), Fail> {
+    let bytes =
+        b"flow 1\ngraph one\ninput x input\nnode a eval input = x ; input\nnode two chain a\noutput a\ngraph two\ninput x\nnode a sum input\nnode two chain a\noutput two\ngraph input\ninput a b c\noutput input\npoint 1 2 3\n";
+    let job = read(&rt, rt.alloc(), bytes)?;
+    assert_eq!(rt; job.graphs.len(), 3);
+    let graph = job.graphs.get(0).expect(&rt, "the first graph");
+    assert_eq!(rt; graph.name.bytes(), b"one".as_slice());
+    assert_eq!(rt; graph.inputs.len(), 2);
+    assert_eq!(rt; graph.nodes.len(), 2);
+    assert_eq!(rt; graph.output, Source::Node(0));
+    let node = graph.nodes.get(1).expect(&rt, "a node that isn't needed");
+    assert!(rt; !node.needed);
+    let graph = job.graphs.get(1).expect(&rt, "the second graph");
+    assert_eq!(rt; graph.name.bytes(), b"two".as_slice());
+    assert_eq!(rt; graph.inputs.len(), 1);
+    assert_eq!(rt; graph.output, Source::Node(1));
+    let node = graph.nodes.get(0).expect(&rt, "a node that is read");
+    assert_eq!(rt; node.name.bytes(), b"a".as_slice());
+    assert!(rt; node.needed);
+    let NodeKind::Sum { parts } = &node.kind else {
+        return Err(Fail::from("another kind"));
+    };
+    assert_eq!(rt; parts.as_slice(), [Source::Input].as_slice());
+    let graph = job.graphs.get(2).expect(&rt, "the main graph");
+    assert_eq!(rt; graph.name.bytes(), b"input".as_slice());
+    assert_eq!(rt; graph.inputs.len(), 3);
+    assert_eq!(rt; graph.nodes.len(), 0);
+    assert_eq!(rt; graph.output, Source::Input);
+    assert_eq!(rt; job.points.len(), 1);
+    Ok(())
+}
+
+#[test]
+fn graphs_are_read_up_to_their_limit(rt: HostRuntime) -> Result<(), Fail> {
+    let mut bytes = Vec::from_slice(rt.alloc(), b"flow 1\n")?;
+    for turn in 0..64 {
+        let lines = format!(in rt.alloc(); "graph g{turn}\ninput x\noutput input\n")?;
+        bytes.extend_from_slice(lines.as_bytes())?;
+    }
+    let job = read(&rt, rt.alloc(), bytes.as_slice())?;
+    assert_eq!(rt; job.graphs.len(), 64);
+    let graph = job.graphs.get(63).expect(&rt, "the main graph");
+    assert_eq!(rt; graph.name.bytes(), b"g63".as_slice());
+    let mut again = Vec::from_slice(rt.alloc(), bytes.as_slice())?;
+    bytes.extend_from_slice(b"graph more\n")?;
+    assert!(rt; is_refused(&rt, rt.alloc(), bytes.as_slice(), 194, FileKind::Limit));
+    again.extend_from_slice(b"graph g0\n")?;
+    assert!(rt; is_refused(&rt, rt.alloc(), again.as_slice(), 194, FileKind::Repeated));
+    Ok(())
 }
 
 #[test]

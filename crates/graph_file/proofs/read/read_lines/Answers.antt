@@ -1,11 +1,11 @@
-use Rattle.std.proofs.Common.{◌≡◌, ◌∙◌, ◌∷◌, ◌<◌, ◌+◌, ℕ, List, Some, ap, arith, drop, take, length}
+use Rattle.std.proofs.Common.{◌≡◌, ◌∙◌, ◌∷◌, ◌<◌, ◌+◌, ℕ, List, Some, sym, ap, arith, drop, take, length}
 use Rattle.std.specs.List.{slice_get}
 use Rattle.std.proofs.lemmas.Option.{slice_get_within}
 use Rattle.std.proofs.lemmas.Result.{err_from_is_err_and}
 use Rattle.graph_file.specs.Cut.{pieces_behind, size_behind}
 use Rattle.graph_file.specs.File.{said}
 use Rattle.graph_file.specs.Lines.{lines}
-use Rattle.graph_file.proofs.FileLemmas.{line-at, good-lines, good-more, refused-at}
+use Rattle.graph_file.proofs.FileLemmas.{at-end, cut-off, good-file, line-at, good-lines, good-more, refused-at}
 use Rattle.graph_file.proofs.read.read_lines.Goals as goal
 
 pub returns-in_err-next_line : goal.returns-in_err-next_line
@@ -36,3 +36,15 @@ next_line-requires-clause-read c = record {
   read = c.loop-rest.invariant.read;
   good = good-lines (lines c.args.bytes.now) c.loop-rest.place c.loop-rest.invariant.within c.loop-rest.invariant.good;
 }
+
+pub returns-then-not-is_complete : goal.returns-then-not-is_complete
+returns-then-not-is_complete c =
+    let all : List (List ℕ) = lines c.args.bytes.now in
+    let whole : c.loop-rest.place ≡ length all = at-end all c.loop-rest.place c.loop-rest.invariant.within (c.loop-rest.invariant.left ∙ ap (pieces_behind 10) c.in_default.is) in
+    cut-off c.args.need c.args.bytes.now c.loop-rest.place whole c.loop-rest.invariant.good (sym (c.is_complete.ensures (said (take c.loop-rest.place all)) c.loop-rest.invariant.read) ∙ c.if-not-is_complete.true)
+
+pub returns : goal.returns
+returns c =
+    let all : List (List ℕ) = lines c.args.bytes.now in
+    let whole : c.loop-rest.place ≡ length all = at-end all c.loop-rest.place c.loop-rest.invariant.within (c.loop-rest.invariant.left ∙ ap (pieces_behind 10) c.in_default.is) in
+    good-file c.args.need c.args.bytes.now c.loop-rest.place c.loop-rest.reader whole c.loop-rest.invariant.good c.loop-rest.invariant.read (sym (c.is_complete.ensures (said (take c.loop-rest.place all)) c.loop-rest.invariant.read) ∙ c.if-not-is_complete.false)

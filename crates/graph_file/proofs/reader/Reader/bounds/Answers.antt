@@ -5,6 +5,8 @@ use Rattle.graph_file.specs.declared.line.Line.TheVariants.{Bounds}
 use Rattle.graph_file.proofs.BoundLemmas.{KeptBounds, given-same, kept-bounds, low-said, passed-den, passed-num}
 use Rattle.graph_file.proofs.StepLemmas.{bounds-fits}
 use Rattle.graph_file.proofs.TakeLemmas.{passed}
+use Rattle.graph_file.specs.declared.line.Line.TheVariants as line
+use Rattle.graph_file.proofs.GraphLemmas.{AreBehind-kept}
 use Rattle.graph_file.proofs.reader.Reader.bounds.Goals as goal
 
 pub add_bounds-requires : goal.add_bounds-requires
@@ -19,6 +21,7 @@ returns c = λ earlier read.
     let kept : KeptBounds earlier c.args.outputs c.args.num.now c.args.den.now c.add_bounds.new.self = kept-bounds earlier c.args.self.now c.args.outputs c.args.num.now c.args.den.now c.count.result c.bounds_said-bounds.result c.add_bounds.new.self read c.in_ok-add_bounds.ensures c.bounds_said-bounds.ensures c.count.ensures fresh in
     record {
       last_is = refl;
+      graphs_are = AreBehind-kept (line.Bounds c.args.outputs c.args.num.now c.args.den.now) earlier _ _ refl read.graphs_are;
       name_is = read.name_is;
       variables_are = read.variables_are;
       names_are = read.names_are;

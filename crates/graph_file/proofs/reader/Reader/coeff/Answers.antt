@@ -1,10 +1,13 @@
 use Rattle.std.proofs.Common.{refl}
 use Rattle.graph_file.proofs.StepLemmas.{coeff-fits}
+use Rattle.graph_file.specs.declared.line.Line.TheVariants as line
+use Rattle.graph_file.proofs.GraphLemmas.{AreBehind-kept}
 use Rattle.graph_file.proofs.reader.Reader.coeff.Goals as goal
 
 pub returns : goal.returns
 returns c = λ earlier read. record {
   last_is = refl;
+  graphs_are = AreBehind-kept (line.Coeff c.args.coeff.num c.args.coeff.den) earlier _ _ refl read.graphs_are;
   name_is = read.name_is;
   variables_are = read.variables_are;
   names_are = read.names_are;

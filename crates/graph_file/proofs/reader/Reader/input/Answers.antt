@@ -1,10 +1,13 @@
 use Rattle.std.proofs.Common.{refl}
 use Rattle.graph_file.proofs.StepLemmas.{input-fits}
+use Rattle.graph_file.specs.declared.line.Line.TheVariants as line
+use Rattle.graph_file.proofs.GraphLemmas.{AreBehind-kept}
 use Rattle.graph_file.proofs.reader.Reader.input.Goals as goal
 
 pub returns : goal.returns
 returns c = λ earlier read. record {
   last_is = refl;
+  graphs_are = AreBehind-kept (line.Input c.args.names) earlier _ _ refl read.graphs_are;
   name_is = read.name_is;
   variables_are = refl;
   names_are = read.names_are;

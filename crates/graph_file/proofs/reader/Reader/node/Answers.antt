@@ -8,6 +8,8 @@ use Rattle.graph_file.specs.Says.{kind_of}
 use Rattle.graph_file.proofs.KindLemmas.{IsOf, kind_is_of}
 use Rattle.graph_file.proofs.StepLemmas.{node-fits}
 use Rattle.graph_file.proofs.TakeLemmas.{kind-said, node-new, node-there}
+use Rattle.graph_file.specs.declared.line.Line.TheVariants as line
+use Rattle.graph_file.proofs.GraphLemmas.{AreBehind-kept}
 use Rattle.graph_file.proofs.reader.Reader.node.Goals as goal
 
 pub unreachable-requires : goal.unreachable-requires
@@ -30,6 +32,7 @@ returns c =
     in
     λ earlier read. record {
       last_is = c.stood_after-self.ensures ∙ of.stood;
+      graphs_are = AreBehind-kept (line.Node c.args.name c.args.statement.now) earlier _ _ refl read.graphs_are;
       name_is = read.name_is;
       variables_are = read.variables_are;
       names_are = names ∙ ap (λ l. l ++ c.args.name ∷ []) read.names_are;

@@ -2,6 +2,8 @@ use Rattle.std.proofs.Common.{◌≡◌, ◌∙◌, Some, ap, refl, sym}
 use Rattle.graph_file.specs.Says.{source_named}
 use Rattle.graph_file.proofs.StepLemmas.{output-fits}
 use Rattle.graph_file.proofs.TakeLemmas.{output-there}
+use Rattle.graph_file.specs.declared.line.Line.TheVariants as line
+use Rattle.graph_file.proofs.GraphLemmas.{AreBehind-kept}
 use Rattle.graph_file.proofs.reader.Reader.output.Goals as goal
 
 pub unreachable-requires : goal.unreachable-requires
@@ -12,6 +14,7 @@ returns c =
     let is : source_named c.args.self.now.table.names c.args.list.now ≡ Some c.in-Some.output = sym c.source_named-output.ensures ∙ c.in-Some.is in
     λ earlier read. record {
       last_is = refl;
+      graphs_are = AreBehind-kept (line.Output c.args.list.now) earlier _ _ refl read.graphs_are;
       name_is = read.name_is;
       variables_are = read.variables_are;
       names_are = read.names_are;

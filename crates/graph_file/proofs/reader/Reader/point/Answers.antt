@@ -1,5 +1,7 @@
 use Rattle.std.proofs.Common.{◌≡◌, ◌∙◌, ◌++◌, ◌∷◌, [], ap, refl}
 use Rattle.graph_file.proofs.StepLemmas.{point-fits}
+use Rattle.graph_file.specs.declared.line.Line.TheVariants as line
+use Rattle.graph_file.proofs.GraphLemmas.{AreBehind-kept}
 use Rattle.graph_file.proofs.reader.Reader.point.Goals as goal
 
 pub returns : goal.returns
@@ -7,6 +9,7 @@ returns c =
     let more : c.push.new.self ≡ c.args.self.now.asked.points ++ c.args.entries.now ∷ [] = c.in_ok-push.ensures.ok ∙ ap (λ p. c.args.self.now.asked.points ++ p ∷ []) c.of.ensures in
     λ earlier read. record {
       last_is = refl;
+      graphs_are = AreBehind-kept (line.Point c.args.entries.now) earlier _ _ refl read.graphs_are;
       name_is = read.name_is;
       variables_are = read.variables_are;
       names_are = read.names_are;

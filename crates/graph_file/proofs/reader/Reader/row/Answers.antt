@@ -5,6 +5,8 @@ use Rattle.graph_file.specs.Needed.{kinds_of}
 use Rattle.graph_file.specs.Says.{with_row}
 use Rattle.graph_file.proofs.SoundLemmas.{kinds_with_row}
 use Rattle.graph_file.proofs.StepLemmas.{row-fits, rows-open}
+use Rattle.graph_file.specs.declared.line.Line.TheVariants as line
+use Rattle.graph_file.proofs.GraphLemmas.{AreBehind-kept}
 use Rattle.graph_file.proofs.reader.Reader.row.Goals as goal
 
 pub add_row-requires : goal.add_row-requires
@@ -18,6 +20,7 @@ returns c =
     let next : Node = record { name = node.name; kind = with_row (record { columns = c.args.columns }) node.kind; needed = node.needed } in
     λ earlier read. record {
       last_is = refl;
+      graphs_are = AreBehind-kept (line.Row c.args.columns) earlier _ _ refl read.graphs_are;
       name_is = read.name_is;
       variables_are = read.variables_are;
       names_are = read.names_are;
