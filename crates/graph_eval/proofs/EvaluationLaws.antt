@@ -1,5 +1,5 @@
 -- What evaluating a graph node by node says of its value.
-use Rattle.std.proofs.Common.{◌≡◌, All, Result, Ok, Err, ℕ, zero, suc, ◌+◌, ◌<◌, Bool, true, false, MatchBool, List, [], ◌∷◌, ◌++◌, length, map, take, Option, Some, sym, ◌∙◌, ap, subst, arith, inl, inr, length-append, get_or}
+use Rattle.std.proofs.Common.{◌≡◌, All, ℕ, zero, suc, ◌+◌, ◌<◌, Bool, true, false, MatchBool, List, [], ◌∷◌, ◌++◌, length, map, take, Option, Some, sym, ◌∙◌, ap, subst, arith, inl, inr, length-append, get_or}
 use Rattle.std.specs.Prelude.{slice_get, slice_index_or}
 use Rattle.std.proofs.lemmas.Bool.{cases_eq}
 use Rattle.std.proofs.lemmas.Option.{slice_get_within}
@@ -13,8 +13,8 @@ use Rattle.graph_file.specs.declared.graph.NodeKind.{NodeKind}
 use Rattle.graph_file.specs.declared.graph.NodeKind.TheVariants.{Eval, Take, Slice, Chain, Sum, Product, Matmul, Dense, Sparse}
 use Rattle.graph_file.specs.declared.graph.Source.{Source}
 use Rattle.graph_eval.specs.declared.outcome.Cause.{Cause}
-use Rattle.graph_eval.specs.GraphValue.{Meaning, Outcome, Value, SingularAt, named, KindGives, KindFails, NodeGives, NodeFails, FirstLists, GraphMeans, GraphValue, MeansAt, meanings, main_number}
-use Rattle.graph_eval.specs.Evaluated.{NodeAnswers, no_graphs}
+use Rattle.graph_eval.specs.GraphValue.{Meaning, Outcome, SingularAt, named, KindGives, KindFails, NodeGives, NodeFails, FirstLists, GraphMeans, GraphValue, MeansAt, meanings}
+use Rattle.graph_eval.specs.Evaluated.{no_graphs}
 use Rattle.graph_eval.specs.Learned.{sets_of}
 use Rattle.graph_eval.specs.declared.learned.GraphLearned.{GraphLearned}
 use Rattle.prime_field.specs.Residue.{IsPrime}
@@ -46,9 +46,8 @@ needed_alone : (m : ℕ) (called : ℕ → Meaning) (learned : List ℕ) (list :
 needed_alone m called learned list kind values true gives = gives_alone m called learned list kind values gives
 needed_alone m called learned list kind values false none = none
 
-pub alone : (m : ℕ) (called : ℕ → Meaning) (learned : List ℕ) (list : Source → List ℕ) (node : Node) (answer : Result (List ℕ) Cause) → NodeAnswers m no_graphs learned list node answer → NodeAnswers m called learned list node answer
-alone m called learned list node (Err cause) fails = (fails.0, fails_alone m called learned list node.kind cause fails.1)
-alone m called learned list node (Ok values) gives = needed_alone m called learned list node.kind values node.needed gives
+pub alone : (m : ℕ) (called : ℕ → Meaning) (learned : List ℕ) (list : Source → List ℕ) (node : Node) (values : List ℕ) → NodeGives m no_graphs learned list node values → NodeGives m called learned list node values
+alone m called learned list node values gives = needed_alone m called learned list node.kind values node.needed gives
 
 -- no list yet
 pub FirstLists-none : (m : ℕ) (called : ℕ → Meaning) (learned : List (List ℕ)) (nodes : List Node) (inputs : List ℕ) → FirstLists m called learned nodes inputs []
@@ -85,17 +84,17 @@ FirstLists-sets m called sets others nodes inputs lists same first = record {
 
 -- the first so many nodes have given these lists of residues, which have the learned lengths; where m is prime, the lists
 -- are their values
-pub record ListsSoFar (m : ℕ) (nodes : List Node) (inputs : List ℕ) (sets : List (List ℕ)) (lengths : List ℕ) (lists : List (List ℕ)) (count : ℕ) : Type 0 where
-  pub first : IsPrime m → FirstLists m no_graphs sets nodes inputs lists
+pub record ListsSoFar (m : ℕ) (called : ℕ → Meaning) (nodes : List Node) (inputs : List ℕ) (sets : List (List ℕ)) (lengths : List ℕ) (lists : List (List ℕ)) (count : ℕ) : Type 0 where
+  pub first : IsPrime m → FirstLists m called sets nodes inputs lists
   pub many : length lists ≡ count
   pub residues : All (λ list. All (λ x. x < m) list) lists
   pub rooms : map (λ list. length list) lists ≡ take count lengths
 
 -- the sets and lengths of later nodes don't count
-pub ListsSoFar-longer : (m : ℕ) (nodes : List Node) (inputs : List ℕ) (sets others : List (List ℕ)) (lengths longer : List ℕ) (lists : List (List ℕ)) (count : ℕ) → ((n : ℕ) → n < count → slice_index_or sets n [] ≡ slice_index_or others n []) → take count lengths ≡ take count longer
-    → ListsSoFar m nodes inputs sets lengths lists count → ListsSoFar m nodes inputs others longer lists count
-ListsSoFar-longer m nodes inputs sets others lengths longer lists count same lengths_same so_far = record {
-  first = λ prime. FirstLists-sets m no_graphs sets others nodes inputs lists (λ n below. same n (omega (arith, so_far.many))) (so_far.first prime);
+pub ListsSoFar-longer : (m : ℕ) (called : ℕ → Meaning) (nodes : List Node) (inputs : List ℕ) (sets others : List (List ℕ)) (lengths longer : List ℕ) (lists : List (List ℕ)) (count : ℕ) → ((n : ℕ) → n < count → slice_index_or sets n [] ≡ slice_index_or others n []) → take count lengths ≡ take count longer
+    → ListsSoFar m called nodes inputs sets lengths lists count → ListsSoFar m called nodes inputs others longer lists count
+ListsSoFar-longer m called nodes inputs sets others lengths longer lists count same lengths_same so_far = record {
+  first = λ prime. FirstLists-sets m called sets others nodes inputs lists (λ n below. same n (omega (arith, so_far.many))) (so_far.first prime);
   many = so_far.many;
   residues = so_far.residues;
   rooms = so_far.rooms ∙ lengths_same;
@@ -105,47 +104,31 @@ ListsSoFar-longer m nodes inputs sets others lengths longer lists count same len
 pub FirstLists-alone : (m : ℕ) (called : ℕ → Meaning) (learned : List (List ℕ)) (nodes : List Node) (inputs : List ℕ) (lists : List (List ℕ)) → FirstLists m no_graphs learned nodes inputs lists → FirstLists m called learned nodes inputs lists
 FirstLists-alone m called learned nodes inputs lists first = record {
   within = first.within;
-  each = λ n node below is. alone m called (slice_index_or learned n []) (named inputs (take n lists)) node (Ok (slice_index_or lists n [])) (first.each n node below is);
-}
-
-pub means_alone : (m : ℕ) (called : ℕ → Meaning) (learned : List (List ℕ)) (graph : Graph) (inputs : List ℕ) (outcome : Outcome) → GraphMeans m no_graphs learned graph inputs outcome → GraphMeans m called learned graph inputs outcome
-means_alone m called learned graph inputs (Value values) is = record {
-  lists = is.lists;
-  first = FirstLists-alone m called learned graph.nodes inputs is.lists is.first;
-  all = is.all;
-  output = is.output;
-}
-means_alone m called learned graph inputs (SingularAt n cause) is = record {
-  lists = is.lists;
-  first = FirstLists-alone m called learned graph.nodes inputs is.lists is.first;
-  before = is.before;
-  node = is.node;
-  is_node = is.is_node;
-  fails = (is.fails.0, fails_alone m called (slice_index_or learned n []) (named inputs is.lists) is.node.kind cause is.fails.1);
+  each = λ n node below is. alone m called (slice_index_or learned n []) (named inputs (take n lists)) node (slice_index_or lists n []) (first.each n node below is);
 }
 
 -- a needed node without a value makes the graph singular
-pub stops : (m : ℕ) (graph : Graph) (inputs : List ℕ) (sets : List (List ℕ)) (lengths : List ℕ) (lists : List (List ℕ)) (place : ℕ) (set : List ℕ) (node : Node) (cause : Cause) → ListsSoFar m graph.nodes inputs sets lengths lists place → slice_get graph.nodes place ≡ Some node
-    → slice_index_or sets place [] ≡ set → (IsPrime m → NodeFails m no_graphs set (named inputs lists) node cause) → IsPrime m → GraphMeans m no_graphs sets graph inputs (SingularAt place cause)
-stops m graph inputs sets lengths lists place set node cause so_far is set_is fails prime = record {
+pub stops : (m : ℕ) (called : ℕ → Meaning) (graph : Graph) (inputs : List ℕ) (sets : List (List ℕ)) (lengths : List ℕ) (lists : List (List ℕ)) (place : ℕ) (set : List ℕ) (node : Node) (cause : Cause) → ListsSoFar m called graph.nodes inputs sets lengths lists place → slice_get graph.nodes place ≡ Some node
+    → slice_index_or sets place [] ≡ set → (IsPrime m → NodeFails m called set (named inputs lists) node cause) → IsPrime m → GraphMeans m called sets graph inputs (SingularAt place cause)
+stops m called graph inputs sets lengths lists place set node cause so_far is set_is fails prime = record {
   lists = lists;
   first = so_far.first prime;
   before = so_far.many;
   node = node;
   is_node = is;
-  fails = subst (λ (s : List ℕ). NodeFails m no_graphs s (named inputs lists) node cause) (sym set_is) (fails prime);
+  fails = subst (λ (s : List ℕ). NodeFails m called s (named inputs lists) node cause) (sym set_is) (fails prime);
 }
 
 -- a node's list joins those before it
-pub goes_on : (m : ℕ) (nodes : List Node) (inputs : List ℕ) (sets : List (List ℕ)) (lengths : List ℕ) (lists more : List (List ℕ)) (place own : ℕ) (set : List ℕ) (node : Node) (values : List ℕ) → ListsSoFar m nodes inputs sets lengths lists place → slice_get nodes place ≡ Some node
-    → slice_index_or sets place [] ≡ set → (IsPrime m → NodeGives m no_graphs set (named inputs lists) node values) → All (λ x. x < m) values → length values ≡ own → place < length lengths → own ≡ get_or lengths place 0 → more ≡ lists ++ values ∷ [] → ListsSoFar m nodes inputs sets lengths more (place + 1)
-goes_on m nodes inputs sets lengths lists more place own set node values so_far is set_is list low long below own_is joined =
+pub goes_on : (m : ℕ) (called : ℕ → Meaning) (nodes : List Node) (inputs : List ℕ) (sets : List (List ℕ)) (lengths : List ℕ) (lists more : List (List ℕ)) (place own : ℕ) (set : List ℕ) (node : Node) (values : List ℕ) → ListsSoFar m called nodes inputs sets lengths lists place → slice_get nodes place ≡ Some node
+    → slice_index_or sets place [] ≡ set → (IsPrime m → NodeGives m called set (named inputs lists) node values) → All (λ x. x < m) values → length values ≡ own → place < length lengths → own ≡ get_or lengths place 0 → more ≡ lists ++ values ∷ [] → ListsSoFar m called nodes inputs sets lengths more (place + 1)
+goes_on m called nodes inputs sets lengths lists more place own set node values so_far is set_is list low long below own_is joined =
     let at_length : slice_get nodes (length lists) ≡ Some node = ap (slice_get nodes) so_far.many ∙ is in
     let within : length lists < length nodes = slice_get_within nodes (length lists) node at_length in
     let set_here : set ≡ slice_index_or sets (length lists) [] = sym set_is ∙ ap (λ n. slice_index_or sets n []) (sym so_far.many) in
     record {
-      first = λ prime. subst (λ (ls : List (List ℕ)). FirstLists m no_graphs sets nodes inputs ls) (sym joined) (FirstLists-more m no_graphs sets nodes inputs lists node values (so_far.first prime) within at_length
-          (subst (λ (s : List ℕ). NodeGives m no_graphs s (named inputs lists) node values) set_here (list prime)));
+      first = λ prime. subst (λ (ls : List (List ℕ)). FirstLists m called sets nodes inputs ls) (sym joined) (FirstLists-more m called sets nodes inputs lists node values (so_far.first prime) within at_length
+          (subst (λ (s : List ℕ). NodeGives m called s (named inputs lists) node values) set_here (list prime)));
       many = ap length joined ∙ length-append lists (values ∷ []) ∙ ap (λ n. n + 1) so_far.many;
       residues = All-same (λ xs. All (λ x. x < m) xs) _ _ joined (All-push (λ xs. All (λ x. x < m) xs) lists values so_far.residues low);
       rooms = ap (map (λ (xs : List ℕ). length xs)) joined ∙ map-append (λ (xs : List ℕ). length xs) lists (values ∷ []) ∙ ap (λ ns. ns ++ length values ∷ []) so_far.rooms
@@ -158,11 +141,9 @@ sets_at [] number entry is = absurd (omega (arith, slice_get_within [] number en
 sets_at (first ∷ learned) zero entry is = let same : first ≡ entry = cc in ap (λ (g : GraphLearned). g.sets) same
 sets_at (first ∷ learned) (suc number) entry is = sets_at learned number entry is
 
--- what the main graph means alone is its value
-pub main_value : (m : ℕ) (graphs : List Graph) (learned : List GraphLearned) (graph : Graph) (entry : GraphLearned) (inputs : List ℕ) (outcome : Outcome) → slice_get graphs (main_number graphs) ≡ Some graph → slice_get learned (main_number graphs) ≡ Some entry
-    → GraphMeans m no_graphs entry.sets graph inputs outcome → GraphValue m graphs (sets_of learned) (main_number graphs) inputs outcome
-main_value m graphs learned graph entry inputs outcome is entry_is means =
-    let number = main_number graphs in
+-- what a graph means is its value in its file
+pub graph_value : (m : ℕ) (graphs : List Graph) (learned : List GraphLearned) (number : ℕ) (graph : Graph) (entry : GraphLearned) (inputs : List ℕ) (outcome : Outcome) → slice_get graphs number ≡ Some graph → slice_get learned number ≡ Some entry
+    → GraphMeans m (meanings m graphs (sets_of learned) number) entry.sets graph inputs outcome → GraphValue m graphs (sets_of learned) number inputs outcome
+graph_value m graphs learned number graph entry inputs outcome is entry_is means =
     subst (λ (o : Option Graph). MeansAt m (meanings m graphs (sets_of learned) number) (slice_index_or (sets_of learned) number []) o inputs outcome) (sym is)
-    (subst (λ (sets : List (List ℕ)). GraphMeans m (meanings m graphs (sets_of learned) number) sets graph inputs outcome) (sym (sets_at learned number entry entry_is))
-    (means_alone m (meanings m graphs (sets_of learned) number) entry.sets graph inputs outcome means))
+    (subst (λ (sets : List (List ℕ)). GraphMeans m (meanings m graphs (sets_of learned) number) sets graph inputs outcome) (sym (sets_at learned number entry entry_is)) means)

@@ -1,15 +1,21 @@
 -- What learning a graph node by node says of its answer.
-use Rattle.std.proofs.Common.{◌≡◌, ℕ, ◌+◌, ◌<◌, ◌≤◌, Bool, true, false, IsTrue, if◌then◌else◌, List, [], ◌∷◌, ◌++◌, All, length, map, take, get_or, Option, Some, None, refl, sym, ◌∙◌, ap, subst, length-append, arith, inl, inr}
-use Rattle.std.specs.Prelude.{slice_get, slice_index_or, IfSome, option_and_then}
+use Rattle.std.proofs.Common.{◌≡◌, ℕ, ◌+◌, ◌-◌, ◌<◌, ◌≤◌, Bool, true, false, IsTrue, if◌then◌else◌, List, [], ◌∷◌, ◌++◌, All, length, map, take, get_or, Option, Some, None, refl, sym, ◌∙◌, ap, subst, append-nil, append_assoc, length-append, arith, inl, inr}
+use Rattle.std.specs.Prelude.{slice_get, slice_index, slice_index_or, IfSome, option_and_then}
+use Rattle.std.proofs.Math.Path.{fun_ext}
 use Rattle.std.proofs.lemmas.Bool.{cases_eq}
 use Rattle.std.proofs.lemmas.List.{take-append-le}
-use Rattle.std.proofs.lemmas.List.Elements.{All-nil}
+use Rattle.std.proofs.lemmas.List.Elements.{All-append, All-nil, All-same}
 use Rattle.std.proofs.Math.Seq.{get_or-append_seam, take-append_seam, take-length}
 use Rattle.std.proofs.Math.ListN.{get_or-append}
 use Rattle.prime_field.specs.Residue.{IsPrime}
 use Rattle.sparse_solver.specs.Plan.{Plan}
+use Rattle.basic_nodes.specs.Plain.{chained}
+use Rattle.basic_nodes.proofs.Pieces.{chained-more, chained_residues}
+use Rattle.graph_file.specs.Needed.{sources_of}
+use Rattle.graph_file.specs.Sound.{IsKind}
 use Rattle.graph_file.specs.declared.graph.Graph.{Graph}
 use Rattle.graph_file.specs.declared.graph.Node.{Node}
+use Rattle.graph_file.specs.declared.graph.NodeKind.{NodeKind}
 use Rattle.graph_eval.specs.declared.fresh.Fresh.{Fresh}
 use Rattle.graph_eval.specs.declared.fresh.Fresh.TheVariants as fresh
 use Rattle.graph_eval.specs.declared.learned.GraphLearned.{GraphLearned}
@@ -17,8 +23,12 @@ use Rattle.graph_eval.specs.declared.outcome.Cause.{Cause}
 use Rattle.graph_eval.specs.Evaluated.{IsNeededNode, no_graphs}
 use Rattle.graph_eval.specs.Fresh.{BreaksLength, FirstLearned, HasNoValue, IsFresh, IsLearned, IsReached, NodeLearns}
 use Rattle.graph_eval.specs.GraphValue.{Meaning, NodeFails, NodeGives, named}
-use Rattle.graph_eval.specs.Learned.{ArePlans, FitsGraph, IsSetFor, joined_length, kind_length, named_length, node_length}
+use Rattle.graph_file.specs.declared.graph.Source.{Source}
+use Rattle.graph_eval.specs.Reading.{AreListed, IsThere, placed, places_of}
+use Rattle.graph_eval.specs.Stacked.{IsAdded}
+use Rattle.graph_eval.specs.Learned.{ArePlans, FitsGraph, HasOwnLength, IsSetFor, joined_length, kind_length, named_length, node_length}
 use Rattle.graph_eval.proofs.EvaluationLaws.{FirstLists-alone, ListsSoFar, ListsSoFar-longer, fails_alone, goes_on}
+use Rattle.graph_eval.proofs.Listed.{named_placed, places-push, table_room, table_sound, table_there}
 use Rattle.graph_eval.proofs.LengthLaws.{LengthsSoFar, LengthsSoFar-none, LengthsSoFar-sets, PlansSoFar, fits_graph, one_more, plans_all}
 
 -- what was learned of the first so many nodes
@@ -27,7 +37,7 @@ pub record LearnedSoFar (m : ℕ) (graph : Graph) (inputs : List ℕ) (sets : Li
   pub fits : (n : ℕ) (node : Node) → n < count → slice_get graph.nodes n ≡ Some node → IsSetFor node (slice_index_or sets n [])
   pub own : IsPrime m → (n : ℕ) (node : Node) → n < count → slice_get graph.nodes n ≡ Some node → NodeLearns m (named inputs (take n lists)) node (slice_index_or sets n [])
   pub measured : LengthsSoFar graph sets lengths count total
-  pub given : ListsSoFar m graph.nodes inputs sets lengths lists count
+  pub given : ListsSoFar m no_graphs graph.nodes inputs sets lengths lists count
 
 pub LearnedSoFar-none : (m : ℕ) (graph : Graph) (inputs : List ℕ) → LearnedSoFar m graph inputs [] [] [] 0 0
 LearnedSoFar-none m graph inputs = record {
@@ -56,6 +66,52 @@ first_learned m graph inputs sets lengths lists count total so_far prime = recor
 -- the lists have the lengths
 pub rooms_are : (m : ℕ) (graph : Graph) (inputs : List ℕ) (sets : List (List ℕ)) (lengths : List ℕ) (lists : List (List ℕ)) (count total : ℕ) → LearnedSoFar m graph inputs sets lengths lists count total → map (λ xs. length xs) lists ≡ lengths
 rooms_are m graph inputs sets lengths lists count total so_far = so_far.given.rooms ∙ ap (λ n. take n lengths) (sym so_far.measured.many) ∙ take-length lengths
+
+-- the same, where the inputs and the lists stand in one run of words, and where they end is known
+pub record LearnedStand (m : ℕ) (graph : Graph) (inputs : List ℕ) (sets : List (List ℕ)) (lengths words places : List ℕ) (count total : ℕ) : Type 0 where
+  pub lists : List (List ℕ)
+  pub so_far : LearnedSoFar m graph inputs sets lengths lists count total
+  pub words_are : words ≡ inputs ++ chained lists
+  pub places_are : places ≡ places_of (length inputs) lengths
+
+pub LearnedStand-none : (m : ℕ) (graph : Graph) (inputs : List ℕ) (sets : List (List ℕ)) (lengths words places : List ℕ) → sets ≡ [] → lengths ≡ [] → words ≡ inputs → places ≡ length inputs ∷ [] → LearnedStand m graph inputs sets lengths words places 0 0
+LearnedStand-none m graph inputs sets lengths words places sets_are lengths_are words_are places_are = record {
+  lists = [];
+  so_far = subst (λ (ss : List (List ℕ)). LearnedSoFar m graph inputs ss lengths [] 0 0) (sym sets_are) (subst (λ (ls : List ℕ). LearnedSoFar m graph inputs [] ls [] 0 0) (sym lengths_are) (LearnedSoFar-none m graph inputs));
+  words_are = words_are ∙ sym (append-nil inputs);
+  places_are = places_are ∙ ap (places_of (length inputs)) (sym lengths_are);
+}
+
+-- what is read of the words and the places
+module _ (m : ℕ) (graph : Graph) (inputs : List ℕ) (sets : List (List ℕ)) (lengths words places : List ℕ) (count total : ℕ) (stands : LearnedStand m graph inputs sets lengths words places count total) (read table : List ℕ) (read_is : read ≡ words) (table_is : table ≡ places) where
+  stands_words : read ≡ inputs ++ chained stands.lists
+  stands_words = read_is ∙ stands.words_are
+
+  stands_places : table ≡ places_of (length inputs) lengths
+  stands_places = table_is ∙ stands.places_are
+
+  stands_listed : AreListed (length inputs) lengths read
+  stands_listed = record { entries = inputs; lists = stands.lists; many = refl; long = rooms_are m graph inputs sets lengths stands.lists count total stands.so_far; words_are = stands_words }
+
+  pub stands_named : placed read table ≡ named inputs stands.lists
+  stands_named =
+      ap (placed read) (stands_places ∙ ap (places_of (length inputs)) (sym (rooms_are m graph inputs sets lengths stands.lists count total stands.so_far)))
+      ∙ fun_ext (named_placed read inputs stands.lists (length inputs) stands_words refl)
+
+  sound_here : (kind : NodeKind) → IsKind (length graph.inputs) count kind → length inputs ≡ length graph.inputs → IsKind (length inputs) (length lengths) kind
+  sound_here kind sound many = subst (λ (n : ℕ). IsKind n (length lengths) kind) (sym many) (subst (λ (n : ℕ). IsKind (length graph.inputs) n kind) (sym stands.so_far.measured.many) sound)
+
+  pub stands_sound : (kind : NodeKind) → IsKind (length graph.inputs) count kind → length inputs ≡ length graph.inputs → IsKind (slice_index table 0) (length table - 1) kind
+  stands_sound kind sound many = table_sound read table (length inputs) lengths stands_listed stands_places kind (sound_here kind sound many)
+
+  pub stands_there : (kind : NodeKind) → IsKind (length graph.inputs) count kind → length inputs ≡ length graph.inputs → All (IsThere read table) (sources_of kind)
+  stands_there kind sound many = table_there read table (length inputs) lengths stands_listed stands_places kind (sound_here kind sound many)
+
+  pub stands_low : All (λ x. x < m) inputs → All (λ x. x < m) read
+  stands_low low = All-same (λ x. x < m) _ _ stands_words (All-append (λ x. x < m) inputs (chained stands.lists) low (chained_residues m stands.lists stands.so_far.given.residues))
+
+  pub stands_room : (set : List ℕ) (node : Node) (own : ℕ) → node_length (length inputs) lengths set node ≡ Some own → HasOwnLength (placed read table) set node own
+  stands_room set node own has = table_room read table (length inputs) lengths stands_listed stands_places set node own has
 
 -- a node whose length fails is needed
 needed_length : (inputs : ℕ) (earlier set : List ℕ) (node : Node) (needed : Bool) → node.needed ≡ needed → node_length inputs earlier set node ≡ None → IsTrue needed
@@ -133,7 +189,7 @@ module _ (m : ℕ) (graph : Graph) (inputs : List ℕ) (sets : List (List ℕ)) 
               (subst (NodeLearns m (named inputs (take n lists)) other) (same n (omega arith)) (so_far.own prime n other (omega arith) other_is))
         ];
         measured = one_more graph more_sets lengths place total count earlier set node answer (LengthsSoFar-sets graph sets more_sets lengths place total same so_far.measured) is count_is earlier_is here answer_is own_length more_lengths some small bound lengths_joined;
-        given = goes_on m graph.nodes inputs more_sets more_lengths lists more_lists place own_length set node values (ListsSoFar-longer m graph.nodes inputs sets more_sets lengths more_lengths lists place same front so_far.given) is here gives low long room at lists_joined;
+        given = goes_on m no_graphs graph.nodes inputs more_sets more_lengths lists more_lists place own_length set node values (ListsSoFar-longer m no_graphs graph.nodes inputs sets more_sets lengths more_lengths lists place same front so_far.given) is here gives low long room at lists_joined;
       }
     where
       same_node : (n : ℕ) (other : Node) → n ≡ place → slice_get graph.nodes n ≡ Some other → node ≡ other
@@ -144,6 +200,23 @@ module _ (m : ℕ) (graph : Graph) (inputs : List ℕ) (sets : List (List ℕ)) 
 
       some_before : (n : ℕ) → n < place → take n lists ≡ take n more_lists
       some_before n below = sym (take-append-le n lists (values ∷ []) (omega (arith, so_far.given.many))) ∙ ap (take n) (sym lists_joined)
+
+-- one node more stands there
+pub LearnedStand-more : (m : ℕ) (graph : Graph) (inputs : List ℕ) (sets : List (List ℕ)) (lengths words places : List ℕ) (place total : ℕ) (stands : LearnedStand m graph inputs sets lengths words places place total) (node : Node) (set : List ℕ) (list : Source → List ℕ) → slice_get graph.nodes place ≡ Some node
+    → list ≡ named inputs stands.lists → (IsPrime m → NodeLearns m list node set) → (count : ℕ) → count ≡ length graph.inputs → (earlier : List ℕ) → earlier ≡ lengths → (answer : Option ℕ) → answer ≡ node_length count earlier set node
+    → (own_length : ℕ) (more_sets : List (List ℕ)) (more_lengths new more_places : List ℕ) → IsSetFor node set → answer ≡ Some own_length → IfSome answer (λ n. n ≤ 262144) → IfSome answer (λ n. total + n ≤ 2097152) → IsAdded m no_graphs set list node own_length words new
+    → more_sets ≡ sets ++ set ∷ [] → more_lengths ≡ lengths ++ own_length ∷ [] → more_places ≡ places ++ (length inputs + (total + own_length)) ∷ [] → LearnedStand m graph inputs more_sets more_lengths new more_places (place + 1) (total + own_length)
+LearnedStand-more m graph inputs sets lengths words places place total stands node set list is list_is own count count_is earlier earlier_is answer answer_is own_length more_sets more_lengths new more_places fits some small bound added sets_joined lengths_joined places_joined =
+    let values : List ℕ = added.values in
+    let so_far = stands.so_far in
+    record {
+      lists = stands.lists ++ values ∷ [];
+      so_far = learned_more m graph inputs sets lengths stands.lists place total node set so_far is (λ prime. subst (λ (l : Source → List ℕ). NodeLearns m l node set) list_is (own prime)) count count_is earlier earlier_is answer answer_is own_length values more_sets more_lengths (stands.lists ++ values ∷ []) fits some small bound
+          (λ prime. subst (λ (l : Source → List ℕ). NodeGives m no_graphs set l node values) list_is (added.gives prime)) added.low added.long sets_joined lengths_joined refl;
+      words_are = added.words ∙ ap (λ xs. xs ++ values) stands.words_are ∙ append_assoc inputs (chained stands.lists) values ∙ ap (λ xs. inputs ++ xs) (sym (chained-more stands.lists values));
+      places_are = places_joined ∙ ap (λ ps. ps ++ (length inputs + (total + own_length)) ∷ []) stands.places_are ∙ ap (λ n. places_of (length inputs) lengths ++ (length inputs + (n + own_length)) ∷ []) so_far.measured.total_is
+          ∙ sym (places-push (length inputs) lengths own_length) ∙ ap (places_of (length inputs)) (sym lengths_joined);
+    }
 
 -- with every node, all is learned
 module _ (m : ℕ) (graph : Graph) (inputs : List ℕ) (sets : List (List ℕ)) (plans : List (Option Plan)) (lengths : List ℕ) (lists : List (List ℕ)) (place total count : ℕ) (learned : GraphLearned) (so_far : LearnedSoFar m graph inputs sets lengths lists place total) (all : place ≡ length graph.nodes) (count_is : count ≡ length graph.inputs)

@@ -3,6 +3,7 @@ pub mod Fitting
 mod FreshLaws
 mod Gathered
 pub mod LengthLaws
+mod Listed
 pub mod OneFresh
 pub mod OneLength
 pub mod OneValue
@@ -11,5 +12,8 @@ pub mod Places
 mod Room
 mod ShapeLaws
 mod SparseLaws
+mod Standing
 pub mod SystemLaws
+mod Tables
+mod Working
 mod Writing

@@ -1,6 +1,6 @@
 -- What a node learns on the lists before it.
-use Rattle.std.proofs.Common.{◌≡◌, ◌≢◌, ℕ, ◌<◌, ◌==◌, Bool, true, false, IsTrue, MatchBool, if◌then◌else◌, List, [], length, map, Option, Some, None, refl, sym, ◌∙◌, ap, subst, eq-eqb}
-use Rattle.std.specs.Prelude.{option_and_then}
+use Rattle.std.proofs.Common.{◌≡◌, ◌≢◌, ℕ, ◌+◌, ◌<◌, ◌++◌, take, drop, arith, ◌==◌, Bool, true, false, IsTrue, MatchBool, if◌then◌else◌, List, [], length, Option, Some, None, refl, sym, ◌∙◌, ap, subst, eq-eqb}
+use lib.Seq.{take_all, take_at}
 use Rattle.std.proofs.lemmas.Bool.{eqb-true, false≢true}
 use Rattle.prime_field.specs.Residue.{IsPrime}
 use Rattle.elim_core.specs.Kept.{HasSolution}
@@ -15,8 +15,9 @@ use Rattle.graph_file.specs.declared.graph.Source.{Source}
 use Rattle.sparse_solver.specs.Plan.{Plan}
 use Rattle.graph_eval.specs.Evaluated.{no_graphs}
 use Rattle.graph_eval.specs.Fresh.{HasPlanOrFails, IsOwnOf, KindLearns, NodeLearns}
-use Rattle.graph_eval.specs.GraphValue.{KindFails, named}
-use Rattle.graph_eval.specs.Learned.{IsKindSet, IsSetFor, joined_length, kind_length, kind_plan, node_length, plan_of, plan_over}
+use Rattle.graph_eval.specs.GraphValue.{KindFails}
+use Rattle.graph_eval.specs.Learned.{IsKindSet, IsSetFor, kind_plan, listed_length, plan_of, plan_over}
+use Rattle.graph_eval.specs.Reading.{placed}
 use Rattle.graph_eval.specs.declared.own.NodeLearned.{NodeLearned}
 use Rattle.graph_eval.specs.declared.outcome.Cause.TheVariants.{System}
 use Rattle.graph_eval.proofs.Room.{sparse_entries}
@@ -53,41 +54,36 @@ module _ (node : Node) (kind : NodeKind) (needed : node.needed ≡ true) (is : n
   pub plan_at : (set : List ℕ) → plan_of set node ≡ kind_plan set kind
   plan_at set = ap (λ (b : Bool). if b then kind_plan set node.kind else None) needed ∙ ap (kind_plan set) is
 
-  -- what has a length has one by its kind
-  kind_has : (inputs : ℕ) (earlier set : List ℕ) (count : ℕ) → node_length inputs earlier set node ≡ Some count → (own : ℕ) × (kind_length inputs earlier set kind ≡ Some own)
-  kind_has inputs earlier set count has =
-      at (kind_length inputs earlier set kind)
-      (ap (λ (k : NodeKind). option_and_then (joined_length earlier) (kind_length inputs earlier set k)) (sym is)
-      ∙ ap (λ (b : Bool). if b then option_and_then (joined_length earlier) (kind_length inputs earlier set node.kind) else Some 0) (sym needed)
-      ∙ has)
-    where
-      at : (o : Option ℕ) → option_and_then (joined_length earlier) o ≡ Some count → (own : ℕ) × (o ≡ Some own)
-      at None none = let never : None ≡ Some count = none in cc
-      at (Some own) some = (own, refl)
-
 -- a node that isn't needed has no plan
 pub plan_unneeded : (node : Node) (set : List ℕ) → node.needed ≡ false → plan_of set node ≡ None
 plan_unneeded node set needed = ap (λ (b : Bool). if b then kind_plan set node.kind else None) needed
 
 -- what learned its plan
-pub has_plan : (m : ℕ) (inputs : List ℕ) (lists : List (List ℕ)) (node : Node) (own : NodeLearned) → own.planned ≡ true → own.plan ≡ plan_of own.set node → HasPlanOrFails m inputs lists node own
-has_plan m inputs lists node own planned is = record {
+pub has_plan : (m : ℕ) (list : Source → List ℕ) (node : Node) (own : NodeLearned) → own.planned ≡ true → own.plan ≡ plan_of own.set node → HasPlanOrFails m list node own
+has_plan m list node own planned is = record {
   planned = λ yes. is;
   needed = λ no. absurd (false≢true (sym no ∙ planned));
   fails = λ no. absurd (false≢true (sym no ∙ planned));
 }
 
 -- a sparse system that learned its plan, or has no solution
-pub sparse_plan : (m : ℕ) (inputs : List ℕ) (lists : List (List ℕ)) (node : Node) (own : NodeLearned) (from : Source) (unknowns : ℕ) (want : List ℕ) (rows : List SparseRow) → 1 < m → node.needed ≡ true → node.kind ≡ Sparse from unknowns want rows
+pub sparse_plan : (m : ℕ) (words places : List ℕ) (node : Node) (own : NodeLearned) (from : Source) (unknowns : ℕ) (want : List ℕ) (rows : List SparseRow) → 1 < m → node.needed ≡ true → node.kind ≡ Sparse from unknowns want rows
     → (own.planned ≡ true → own.plan ≡ Some (plan_over unknowns rows own.set))
-    → (own.planned ≡ false → length (named inputs lists from) ≡ entries_of rows → IsPrime m → HasSolution m unknowns (rows_with unknowns rows (named inputs lists from)) → ⊥)
-    → HasPlanOrFails m inputs lists node own
-sparse_plan m inputs lists node own from unknowns want rows large needed is made none = record {
+    → (own.planned ≡ false → length (placed words places from) ≡ entries_of rows → IsPrime m → HasSolution m unknowns (rows_with unknowns rows (placed words places from)) → ⊥)
+    → HasPlanOrFails m (placed words places) node own
+sparse_plan m words places node own from unknowns want rows large needed is made none = record {
   planned = λ yes. made yes ∙ sym (plan_at node (Sparse from unknowns want rows) needed is own.set);
   needed = λ no. needed;
   fails = λ no count has prime.
-      let length_is = kind_has node (Sparse from unknowns want rows) needed is (length inputs) (map length lists) own.set count has in
-      let whole = sparse_entries inputs lists own.set from unknowns want rows length_is.0 length_is.1 in
-      subst (λ (kind : NodeKind). IsTrue node.needed × KindFails m no_graphs own.set (named inputs lists) kind System) (sym is)
-      (needed, (λ has_value. none no whole prime (value_solvable m unknowns (rows_with unknowns rows (named inputs lists from)) own.set large has_value), refl));
+      let whole = sparse_entries words places own.set from unknowns want rows count (ap (listed_length (placed words places) own.set) (sym is) ∙ has) in
+      subst (λ (kind : NodeKind). IsTrue node.needed × KindFails m no_graphs own.set (placed words places) kind System) (sym is)
+      (needed, (λ has_value. none no whole prime (value_solvable m unknowns (rows_with unknowns rows (placed words places from)) own.set large has_value), refl));
 }
+
+-- words that were there, with zeros behind them, and what is written over these
+pub front_kept : (words grown zeros : List ℕ) (len count : ℕ) → len ≡ length words → grown ≡ take (len + count) words ++ zeros → take len grown ≡ words
+front_kept words grown zeros len count len_is are =
+    ap (take len) are ∙ ap (λ xs. take len (xs ++ zeros)) (take_all (len + count) words (omega arith)) ∙ take_at words zeros len (sym len_is)
+
+pub written_behind : (words before out grown : List ℕ) (len : ℕ) → before ≡ words → length (before ++ out) ≡ len → take len ((before ++ out) ++ drop (length (before ++ out)) grown) ≡ words ++ out
+written_behind words before out grown len before_is long = take_at (before ++ out) (drop (length (before ++ out)) grown) len long ∙ ap (λ xs. xs ++ out) before_is

@@ -1,9 +1,8 @@
 -- Lists that are written part after part.
-use Rattle.std.proofs.Common.{◌≡◌, ℕ, ◌+◌, ◌-◌, ◌<◌, ◌≤◌, List, [], ◌∷◌, ◌++◌, All, length, map, take, drop, set, get_or, Option, Some, refl, sym, ◌∙◌, ap, add-one, inl, inr, arith}
+use Rattle.std.proofs.Common.{◌≡◌, ℕ, ◌+◌, ◌-◌, ◌<◌, ◌≤◌, List, [], ◌∷◌, ◌++◌, All, length, map, take, drop, set, get_or, Option, Some, refl, sym, ◌∙◌, ap, add-one, arith}
 use Rattle.std.specs.List.{flat_map}
-use Rattle.std.proofs.lemmas.List.{take_more, take_more_set, get_or-take, get_or-drop, get_or_past, map-append, length-map, length-take}
-use Rattle.std.proofs.lemmas.Bool.{cases_lt}
-use Rattle.std.proofs.lemmas.List.Elements.{All-nil, All-cons, All-get_or, All-push, All-same}
+use Rattle.std.proofs.lemmas.List.{take_more, take_more_set, get_or-take, get_or-drop, map-append, length-map, length-take}
+use Rattle.std.proofs.lemmas.List.Elements.{All-nil, All-cons, All-drop, All-push, All-same, All-take}
 use Rattle.std.proofs.lemmas.List.Folds.{length-flat_map-take}
 use Rattle.std.proofs.lemmas.Slice.{take-put_mid}
 use borrow.Rule.Slice.PartMut.{put_mid}
@@ -11,9 +10,8 @@ use Rattle.basic_nodes.specs.Plain.{taken, chained, summed, multiplied}
 use Rattle.basic_nodes.proofs.Pieces.{taken-more, chained-more}
 use Rattle.basic_nodes.proofs.Plain.{summed-one, summed-more, multiplied-one, multiplied-more}
 use Rattle.graph_file.specs.declared.graph.Source.{Source}
-use Rattle.graph_file.specs.declared.graph.Source.TheVariants as source
 use Rattle.graph_file.specs.Line.{all_of}
-use Rattle.graph_eval.specs.GraphValue.{named}
+use Rattle.graph_eval.specs.Reading.{placed, start_of, stop_of}
 use Rattle.graph_eval.proofs.Gathered.{onto, asked_there}
 
 -- the lists of one part more
@@ -109,16 +107,11 @@ behind_first parts i d below =
     get_or-take (length parts - 1) (drop 1 parts) i d (omega (arith, behind_below parts i below)) ∙ get_or-drop 1 parts i d ∙ ap (λ n. get_or parts n d) (omega arith)
 
 -- what a source names holds residues
-pub named_residues : (m : ℕ) (inputs : List ℕ) (lists : List (List ℕ)) (from : Source) → All (λ x. x < m) inputs → All (λ list. All (λ x. x < m) list) lists → All (λ x. x < m) (named inputs lists from)
-named_residues m inputs lists source.Input low earlier = low
-named_residues m inputs lists (source.Node k) low earlier =
-    elim (cases_lt k (length lists)) [
-      | inl below ↦ All-get_or (λ list. All (λ x. x < m) list) lists k [] below earlier
-      | inr past ↦ All-same (λ x. x < m) _ _ (get_or_past lists k [] past) (All-nil (λ x. x < m))
-    ]
+pub placed_residues : (m : ℕ) (words places : List ℕ) (from : Source) → All (λ x. x < m) words → All (λ x. x < m) (placed words places from)
+placed_residues m words places from low = All-take (λ x. x < m) (stop_of places from - start_of places from) (drop (start_of places from) words) (All-drop (λ x. x < m) (start_of places from) words low)
 
 -- and so do all lists that parts name
-pub parts_residues : {X : Type 0} (m : ℕ) (inputs : List ℕ) (lists : List (List ℕ)) (from : X → Source) (parts : List X) → All (λ x. x < m) inputs → All (λ list. All (λ x. x < m) list) lists → All (λ list. All (λ x. x < m) list) (map (λ part. named inputs lists (from part)) parts)
-parts_residues m inputs lists from [] low earlier = All-nil (λ list. All (λ x. x < m) list)
-parts_residues m inputs lists from (part ∷ parts) low earlier =
-    All-cons (λ list. All (λ x. x < m) list) _ _ (named_residues m inputs lists (from part) low earlier) (parts_residues m inputs lists from parts low earlier)
+pub parts_residues : {X : Type 0} (m : ℕ) (words places : List ℕ) (from : X → Source) (parts : List X) → All (λ x. x < m) words → All (λ list. All (λ x. x < m) list) (map (λ part. placed words places (from part)) parts)
+parts_residues m words places from [] low = All-nil (λ list. All (λ x. x < m) list)
+parts_residues m words places from (part ∷ parts) low =
+    All-cons (λ list. All (λ x. x < m) list) _ _ (placed_residues m words places (from part) low) (parts_residues m words places from parts low)

@@ -1,12 +1,10 @@
 -- What evaluating a node or a graph answers.
-use Rattle.std.specs.Prelude.{◌≡◌, ℕ, ◌<◌, All, IsTrue, List, Option, Some, None, Result, Ok, Err, length, slice_get}
+use Rattle.std.specs.Prelude.{◌≡◌, ℕ, ◌<◌, All, IsTrue, List, Option, Some, None, length, slice_get}
 use Rattle.graph_file.specs.declared.graph.Graph.{Graph}
 use Rattle.graph_file.specs.declared.graph.Node.{Node}
-use Rattle.graph_file.specs.declared.graph.Source.{Source}
-use Rattle.graph_eval.specs.declared.outcome.Cause.{Cause}
 use Rattle.graph_eval.specs.declared.outcome.Outcome as code
 use Rattle.graph_eval.specs.declared.outcome.Outcome.TheVariants as answer
-use Rattle.graph_eval.specs.GraphValue.{Meaning, NodeGives, NodeFails, Outcome, Value, SingularAt}
+use Rattle.graph_eval.specs.GraphValue.{Meaning, Outcome, Value, SingularAt}
 
 -- the outcome that the program's answer stands for, where these values were written
 abbrev pub outcome_of : List ℕ → code.Outcome → Outcome
@@ -17,11 +15,6 @@ outcome_of values (answer.Singular singular) = SingularAt singular.node singular
 abbrev pub no_graphs : ℕ → Meaning
 no_graphs number = λ inputs outcome. ⊥
 
--- a node's list, or the cause where it is needed and has none
-abbrev pub NodeAnswers : ℕ → (ℕ → Meaning) → List ℕ → (Source → List ℕ) → Node → Result (List ℕ) Cause → Type 0
-NodeAnswers m called learned list node (Ok values) = NodeGives m called learned list node values
-NodeAnswers m called learned list node (Err cause) = NodeFails m called learned list node cause
-
 -- the point has an entry for each variable of the graph
 abbrev pub HasInputs : Option Graph → List ℕ → Type 0
 HasInputs None point = ⊥
@@ -30,6 +23,11 @@ HasInputs (Some graph) point = length point ≡ length graph.inputs
 -- the graph has a node with this number, and it is needed
 abbrev pub IsNeededNode : Graph → ℕ → Type 0
 IsNeededNode graph n = (node : Node) × (slice_get graph.nodes n ≡ Some node) × IsTrue node.needed
+
+-- the same of a graph of a file
+abbrev pub IsNeededAt : Option Graph → ℕ → Type 0
+IsNeededAt None n = ⊥
+IsNeededAt (Some graph) n = IsNeededNode graph n
 
 -- whatever the modulus: the values that were written are residues, or the node that is told is needed
 abbrev pub FitsOutcome : ℕ → Option Graph → List ℕ → code.Outcome → Type 0

@@ -1,5 +1,5 @@
 -- What learning a graph answers: by its length rules alone, or at a point.
-use Rattle.std.specs.Prelude.{◌≡◌, ℕ, ◌+◌, ◌*◌, ◌<◌, ◌==◌, IsTrue, MatchBool, List, [], length, map, take, slice_get, slice_index_or, Some, None, true, false}
+use Rattle.std.specs.Prelude.{◌≡◌, ℕ, ◌+◌, ◌*◌, ◌<◌, ◌==◌, IsTrue, MatchBool, List, [], length, take, slice_get, slice_index_or, Some, None, true, false}
 use Rattle.elim_core.specs.Solved.{IsOwnSet}
 use Rattle.elim_core.specs.Sparse.{entries_of, rows_with}
 use Rattle.prime_field.specs.Residue.{IsPrime}
@@ -16,7 +16,7 @@ use Rattle.graph_eval.specs.declared.outcome.Cause.{Cause}
 use Rattle.graph_eval.specs.declared.outcome.Cause.TheVariants.{System}
 use Rattle.graph_eval.specs.Evaluated.{IsNeededNode, no_graphs}
 use Rattle.graph_eval.specs.GraphValue.{FirstLists, Meaning, NodeFails, meanings, named}
-use Rattle.graph_eval.specs.Learned.{ArePlans, FailsLength, FirstLengths, FitsGraph, named_length, node_length, plan_of}
+use Rattle.graph_eval.specs.Learned.{ArePlans, FailsLength, FirstLengths, FitsGraph, listed_length, named_length, node_length, plan_of}
 use Rattle.graph_eval.specs.Systems.{rows_in}
 
 -- By its length rules alone, for a graph none of whose needed nodes is a solver: what was learned fits the graph, with no
@@ -45,12 +45,11 @@ KindLearns m list kind set = set ≡ []
 abbrev pub NodeLearns : ℕ → (Source → List ℕ) → Node → List ℕ → Type 0
 NodeLearns m list node set = MatchBool node.needed (KindLearns m list node.kind set) (set ≡ [])
 
--- What a node learned on the lists that earlier nodes gave: its plan over its set, or no plan, and then it fails once it has
--- a length.
-pub record HasPlanOrFails (m : ℕ) (inputs : List ℕ) (lists : List (List ℕ)) (node : Node) (own : NodeLearned) : Type 0 where
+-- What a node learned on the lists that it names: its plan over its set, or no plan, and then it fails once it has a length.
+pub record HasPlanOrFails (m : ℕ) (list : Source → List ℕ) (node : Node) (own : NodeLearned) : Type 0 where
   pub planned : own.planned ≡ true → own.plan ≡ plan_of own.set node
   pub needed : own.planned ≡ false → IsTrue node.needed
-  pub fails : own.planned ≡ false → (count : ℕ) → node_length (length inputs) (map length lists) own.set node ≡ Some count → IsPrime m → NodeFails m no_graphs own.set (named inputs lists) node System
+  pub fails : own.planned ≡ false → (count : ℕ) → listed_length list own.set node.kind ≡ Some count → IsPrime m → NodeFails m no_graphs own.set list node System
 
 -- a graph's first nodes at a point: each with its own set, its length by its rule with this set, and its list over it
 pub record FirstLearned (m : ℕ) (called : ℕ → Meaning) (graph : Graph) (inputs : List ℕ) (sets : List (List ℕ)) (lengths : List ℕ) (lists : List (List ℕ)) : Type 0 where

@@ -12,6 +12,7 @@ use Rattle.basic_nodes.specs.Lengths.{length_rule}
 use Rattle.basic_nodes.specs.declared.lengths.NodeShape.{NodeShape}
 use Rattle.basic_nodes.specs.declared.lengths.NodeShape.TheVariants as shape
 use Rattle.graph_file.specs.Needed.{sources_of}
+use Rattle.graph_file.specs.Sound.{IsGraph, IsKind}
 use Rattle.graph_file.specs.declared.graph.Graph.{Graph}
 use Rattle.graph_file.specs.declared.graph.Node.{Node}
 use Rattle.graph_file.specs.declared.graph.NodeKind.{NodeKind}
@@ -51,6 +52,10 @@ named_length inputs lengths (source.Node number) = slice_index lengths number
 -- the length that the rule of a node's kind gives on the lengths of the lists that the node names
 abbrev pub kind_length : ℕ → List ℕ → List ℕ → NodeKind → Option ℕ
 kind_length inputs earlier set kind = length_rule (shape_of set kind) (map (named_length inputs earlier) (sources_of kind))
+
+-- the same on the lists themselves
+abbrev pub listed_length : (Source → List ℕ) → List ℕ → NodeKind → Option ℕ
+listed_length list set kind = length_rule (shape_of set kind) (map (λ from. length (list from)) (sources_of kind))
 
 -- the length, where the lists of a graph then have at most 2097152 entries together
 abbrev pub joined_length : List ℕ → ℕ → Option ℕ
@@ -99,6 +104,10 @@ pub record AreNone (count : ℕ) (plans : List (Option Plan)) : Type 0 where
   pub many : length plans ≡ count
   pub each : (n : ℕ) → slice_index_or plans n None ≡ None
 
+-- the node has so many entries by the rule of its kind on the lists that it names, and none where it isn't needed
+abbrev pub HasOwnLength : (Source → List ℕ) → List ℕ → Node → ℕ → Type 0
+HasOwnLength list set node own = MatchBool node.needed (listed_length list set node.kind ≡ Some own) (own ≡ 0)
+
 -- as many empty sets
 pub record AreEmpty (count : ℕ) (sets : List (List ℕ)) : Type 0 where
   pub many : length sets ≡ count
@@ -112,6 +121,16 @@ pub record FitsGraph (graph : Graph) (learned : GraphLearned) : Type 0 where
   pub first : FirstLengths graph learned.sets learned.lengths
   pub all : length learned.lengths ≡ length graph.nodes
   pub output : learned.output ≡ named_length (length graph.inputs) learned.lengths graph.output
+
+-- what was learned of a graph of so many inputs has a set, a plan and a length for the node at this place, which is sound
+pub record FitsNode (inputs : ℕ) (learned : GraphLearned) (place : ℕ) (node : Node) : Type 0 where
+  pub sound : IsKind inputs place node.kind
+  pub many_sets : place < length learned.sets
+  pub many_plans : place < length learned.plans
+  pub many_lengths : place < length learned.lengths
+  pub set : IsSetFor node (slice_index_or learned.sets place [])
+  pub plan : slice_index_or learned.plans place None ≡ plan_of (slice_index_or learned.sets place []) node
+  pub long : node_length inputs (take place learned.lengths) (slice_index_or learned.sets place []) node ≡ Some (slice_index learned.lengths place)
 
 -- whether the node is a solver whose value is needed
 abbrev pub is_solver : Node → Bool
@@ -134,6 +153,10 @@ pub record FailsLength (graph : Graph) (n : ℕ) : Type 0 where
   pub node : Node
   pub is_node : slice_get graph.nodes n ≡ Some node
   pub fails : node_length (length graph.inputs) lengths [] node ≡ None
+
+-- each of these graphs is sound
+pub record AreGraphs (graphs : List Graph) : Type 0 where
+  pub graph : (k : ℕ) (graph : Graph) → slice_get graphs k ≡ Some graph → IsGraph graph
 
 -- what was learned of the first so many graphs of a file, an entry for each in order
 pub record FitsFirst (graphs : List Graph) (learned : List GraphLearned) (count : ℕ) : Type 0 where

@@ -3,5 +3,7 @@ pub mod Fresh
 pub mod GraphValue
 pub mod Learned
 pub mod Made
+pub mod Needs
 pub mod Reading
+pub mod Stacked
 pub mod Systems

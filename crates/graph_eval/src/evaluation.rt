@@ -1,66 +1,69 @@
-//! The lists of a graph's nodes at a point.
+//! Evaluating a graph in one run of words: its inputs stand on top of a stack, and its output takes their place.
 
-ghost use Rattle.std.specs.Prelude.{◌≡◌, ◌<◌, ◌≤◌, All, Some, IfErr, IfOk, OnErr, OnOk, IsTrue, length, map};
+ghost use Rattle.std.specs.Prelude.{◌≡◌, ◌+◌, ◌-◌, ◌<◌, ◌≤◌, [], All, Some, IfErr, OnErr, OnOk, IsTrue, drop, length, slice_get, slice_index, slice_index_or, sum, take};
 ghost use Rattle.std.specs.Option.{option_copied};
 ghost use Rattle.prime_field.specs.Modulus.{value_of};
 ghost use Rattle.prime_field.specs.Residue.{IsPrime};
-ghost use Rattle.graph_file.specs.Sound.{IsGraph, IsKind};
-ghost use Rattle.graph_eval.specs.Evaluated.{FitsOutcome, NodeAnswers, no_graphs, outcome_of};
-ghost use Rattle.graph_eval.specs.GraphValue.{GraphMeans, KindFails, KindGives, named};
-ghost use Rattle.graph_eval.specs.Learned.{FitsGraph, IsKindSet, IsSetFor, kind_length, kind_plan, node_length, plan_of};
-ghost use Rattle.graph_eval.specs.Systems.{AreEnough, words_of};
+ghost use Rattle.graph_file.specs.Needed.{sources_of};
+ghost use Rattle.graph_file.specs.Sound.{IsKind};
+ghost use Rattle.graph_eval.specs.Evaluated.{IsNeededAt, no_graphs};
+ghost use Rattle.graph_eval.specs.GraphValue.{GraphValue, KindFails, KindGives, NodeFails, SingularAt};
+ghost use Rattle.graph_eval.specs.Learned.{AreGraphs, Fits, FitsNode, IsKindSet, kind_plan, listed_length, sets_of};
+ghost use Rattle.graph_eval.specs.Needs.{AreTables};
+ghost use Rattle.graph_eval.specs.Reading.{AreListed, HasPlaces, IsThere, placed, places_of, start_of, stop_of};
+ghost use Rattle.graph_eval.specs.Stacked.{IsAdded, IsReady, IsReplaced};
+ghost use Rattle.graph_eval.specs.Systems.{AreEnoughFor, words_of};
 
-use crate::kinds::{named, write_chained, write_product, write_sum, write_taken, write_values};
+use crate::kinds::{placed, write_chained, write_product, write_sum, write_taken, write_values};
 use crate::learned::GraphLearned;
-use crate::outcome::{Cause, Outcome, Singular};
+use crate::outcome::{Cause, Singular};
 use crate::systems::write_solved;
 use basic_nodes::{matmul, slice};
-use graph_file::{Graph, Node, NodeKind};
+use graph_file::{Graph, Node, NodeKind, Source};
 use prime_field::Modulus;
-use ratfun_text::NoMemory;
 use sparse_solver::SparsePlan;
 use sqlite_items::Items;
-use std::alloc::Global;
+use word_region::Stack;
 
-/// Writes the list of a node of this kind, for which this set and this plan were learned, to `out`, which has its length. A
-/// system is solved in `words`.
+/// Writes the list of a node of this kind, for which this set and this plan were learned, to `out`, which has its length.
+/// The lists that it names stand in `words`, and end at these places. A system is solved in `work`.
 ///
 /// # Errors
 ///
 /// The cause where the node has no value.
-fn write_list(
+pub(crate) fn write_list(
     m: Modulus,
     kind: &NodeKind,
     set: &[u32],
     plan: Option<&SparsePlan>,
-    inputs: &[u64],
-    lists: &[Items<u64>],
-    words: &mut [u64],
+    words: &[u64],
+    places: &[usize],
+    work: &mut [u64],
     out: &mut [u64],
 ) -> Result<(), Cause>
-    requires sound { IsKind (length inputs.now) (length lists.now) kind.now }
+    requires sound { IsKind (slice_index places.now 0) (length places.now - 1) kind.now }
+    requires there { All (IsThere words.now places.now) (sources_of kind.now) }
     requires set { IsKindSet kind.now set.now }
     requires plan { option_copied plan ≡ kind_plan set.now kind.now }
-    requires words { words_of kind.now ≤ length words.old }
-    requires residues { All (λ x. x < value_of m) inputs.now }
-    requires earlier { All (All (λ x. x < value_of m)) lists.now }
-    requires room { kind_length (length inputs.now) (map length lists.now) set.now kind.now ≡ Some (length out.old) }
-    ensures ok { OnOk result (IsPrime (value_of m) → KindGives (value_of m) no_graphs set.now (named inputs.now lists.now) kind.now out.new) }
-    ensures err { IfErr result (λ cause. IsPrime (value_of m) → KindFails (value_of m) no_graphs set.now (named inputs.now lists.now) kind.now cause) }
+    requires work { words_of kind.now ≤ length work.old }
+    requires residues { All (λ x. x < value_of m) words.now }
+    requires room { listed_length (placed words.now places.now) set.now kind.now ≡ Some (length out.old) }
+    ensures ok { OnOk result (IsPrime (value_of m) → KindGives (value_of m) no_graphs set.now (placed words.now places.now) kind.now out.new) }
+    ensures err { IfErr result (λ cause. IsPrime (value_of m) → KindFails (value_of m) no_graphs set.now (placed words.now places.now) kind.now cause) }
     ensures residues { OnOk result (All (λ x. x < value_of m) out.new) }
 {
     match kind {
         NodeKind::Eval { from, exprs } => {
-            let arguments = named(inputs, lists, *from);
+            let arguments = placed(words, places, *from);
             return write_values(m, exprs.as_slice(), arguments, out);
         }
-        NodeKind::Take { parts } => write_taken(parts.as_slice(), inputs, lists, out),
+        NodeKind::Take { parts } => write_taken(parts.as_slice(), words, places, out),
         NodeKind::Slice { from, first, .. } => {
-            slice(named(inputs, lists, *from), *first as usize - 1, out);
+            slice(placed(words, places, *from), *first as usize - 1, out);
         }
-        NodeKind::Chain { parts } => write_chained(parts.as_slice(), inputs, lists, out),
-        NodeKind::Sum { parts } => write_sum(m, parts.as_slice(), inputs, lists, out),
-        NodeKind::Product { parts } => write_product(m, parts.as_slice(), inputs, lists, out),
+        NodeKind::Chain { parts } => write_chained(parts.as_slice(), words, places, out),
+        NodeKind::Sum { parts } => write_sum(m, parts.as_slice(), words, places, out),
+        NodeKind::Product { parts } => write_product(m, parts.as_slice(), words, places, out),
         NodeKind::Matmul {
             left,
             right,
@@ -69,8 +72,8 @@ fn write_list(
             cols,
         } => matmul(
             m,
-            named(inputs, lists, *left),
-            named(inputs, lists, *right),
+            placed(words, places, *left),
+            placed(words, places, *right),
             *rows as usize,
             *mid as usize,
             *cols as usize,
@@ -82,16 +85,16 @@ fn write_list(
             unknowns,
             want,
         } => {
-            let list = named(inputs, lists, *from);
+            let list = placed(words, places, *from);
             let (rows, unknowns) = (*rows as usize, *unknowns as usize);
-            if !write_solved(m, rows, unknowns, list, set, want.as_slice(), words, out) {
+            if !write_solved(m, rows, unknowns, list, set, want.as_slice(), work, out) {
                 return Err(Cause::System);
             }
         }
         NodeKind::Sparse { from, want, .. } => {
-            let list = named(inputs, lists, *from);
+            let list = placed(words, places, *from);
             let Some(plan) = plan else { unreachable!() };
-            if !plan.solve(m, list, want.as_slice(), words, out) {
+            if !plan.solve(m, list, want.as_slice(), work, out) {
                 return Err(Cause::System);
             }
         }
@@ -99,100 +102,113 @@ fn write_list(
     Ok(())
 }
 
-/// The list of a node for which this set and this plan were learned, which is empty where the node isn't needed, or the
-/// cause where it is needed and has no value. A system is solved in `words`.
-pub(crate) fn node_list(
-    alloc: Global,
+/// Appends the list of the node at this place of a graph, which is empty where the node isn't needed. The graph's inputs
+/// and its lists so far stand on top of the first `base` words, and a system is solved in `work`.
+///
+/// # Errors
+///
+/// The cause where the node is needed and has no value. Then nothing is known of the words.
+fn push_node(
     m: Modulus,
     node: &Node,
-    set: &[u32],
-    plan: Option<&SparsePlan>,
-    own: usize,
-    inputs: &[u64],
-    lists: &[Items<u64>],
-    words: &mut [u64],
-) -> Result<Result<Items<u64>, Cause>, NoMemory>
-    requires sound { IsKind (length inputs.now) (length lists.now) node.now.kind }
-    requires set { IsSetFor node.now set.now }
-    requires plan { option_copied plan ≡ plan_of set.now node.now }
-    requires words { IsTrue node.now.needed → words_of node.now.kind ≤ length words.old }
-    requires residues { All (λ x. x < value_of m) inputs.now }
-    requires earlier { All (All (λ x. x < value_of m)) lists.now }
-    requires room { node_length (length inputs.now) (map length lists.now) set.now node.now ≡ Some own }
-    ensures value { IfOk result (λ list. IsPrime (value_of m) → NodeAnswers (value_of m) no_graphs set.now (named inputs.now lists.now) node.now list) }
-    ensures needed { IfOk result (λ list. OnErr list (IsTrue node.now.needed)) }
-    ensures length { IfOk result (λ list. IfOk list (λ xs. length xs ≡ own)) }
-    ensures residues { IfOk result (λ list. IfOk list (All (λ x. x < value_of m))) }
+    learned: &GraphLearned,
+    places: &[usize],
+    place: usize,
+    base: usize,
+    stack: &mut Stack,
+    work: &mut [u64],
+) -> Result<(), Cause>
+    requires fits { FitsNode (slice_index places.now 0) learned.now place node.now }
+    requires places { places.now ≡ places_of (slice_index places.now 0) learned.now.lengths }
+    requires base { base ≤ length stack.old.words }
+    requires listed { AreListed (slice_index places.now 0) (take place learned.now.lengths) (drop base stack.old.words) }
+    requires work { IsTrue node.now.needed → words_of node.now.kind ≤ length work.old }
+    requires residues { All (λ x. x < value_of m) (drop base stack.old.words) }
+    requires room { length stack.old.words + slice_index learned.now.lengths place ≤ stack.old.size }
+    ensures size { stack.new.size ≡ stack.old.size }
+    ensures kept { stack.new.kept ≡ stack.old.kept }
+    ensures ok { OnOk result (IsAdded (value_of m) no_graphs (slice_index_or learned.now.sets place [])
+        (placed (drop base stack.old.words) (take (place + 1) places.now)) node.now (slice_index learned.now.lengths place) stack.old.words stack.new.words) }
+    ensures err { IfErr result (λ cause. IsPrime (value_of m) → NodeFails (value_of m) no_graphs (slice_index_or learned.now.sets place [])
+        (placed (drop base stack.old.words) (take (place + 1) places.now)) node.now cause) }
+    ensures needed { OnErr result (IsTrue node.now.needed) }
 {
     if !node.needed {
-        return Ok(Ok(Items::new(alloc)));
+        return Ok(());
     }
-    let mut list = vec![in alloc; 0; own]?;
-    match write_list(
+    let set = learned.sets.as_slice()[place].as_slice();
+    let plan = learned.plans.as_slice()[place].as_ref();
+    let own = learned.lengths.as_slice()[place] as usize;
+    let (words, out) = stack.grow(own);
+    write_list(
         m,
         &node.kind,
         set,
         plan,
-        inputs,
-        lists,
-        words,
-        list.as_mut_slice(),
-    ) {
-        Ok(()) => Ok(Ok(Items::from_vec(list))),
-        Err(cause) => Ok(Err(cause)),
+        &words[base..],
+        &places[..place + 1],
+        work,
+        out,
+    )
+}
+
+/// Where the list that a source names begins and ends.
+fn run_of(places: &[usize], source: Source) -> (usize, usize)
+    requires { HasPlaces places.now source }
+    ensures start { result.0 ≡ start_of places.now source }
+    ensures stop { result.1 ≡ stop_of places.now source }
+{
+    match source {
+        Source::Input => (0, places[0]),
+        Source::Node(number) => {
+            let number = number as usize;
+            (places[number], places[number + 1])
+        }
     }
 }
 
-/// Writes what a graph that calls no other gives at these inputs, whose nodes' sets, plans and lengths were learned. The
-/// lists are kept in `lists`, and systems are solved in `words`.
+/// Evaluates the graph with this number, whose inputs stand on top of the first `base` words: its output takes their place.
+/// Systems are solved in `work`.
+///
+/// # Errors
+///
+/// The first node that has no value. Then nothing is known of the words.
 pub(crate) fn evaluate(
-    alloc: Global,
     m: Modulus,
-    graph: &Graph,
-    learned: &GraphLearned,
-    inputs: &[u64],
-    lists: &mut Vec<Items<u64>>,
-    words: &mut [u64],
-    out: &mut [u64],
-) -> Result<Outcome, NoMemory>
-    requires sound { IsGraph graph.now }
-    requires fits { FitsGraph graph.now learned.now }
-    requires words { AreEnough graph.now.nodes (length words.old) }
-    requires residues { All (λ x. x < value_of m) inputs.now }
-    requires entries { length inputs.now ≡ length graph.now.inputs }
-    requires room { length out.old ≡ learned.now.output }
-    ensures value { IfOk result (λ outcome. IsPrime (value_of m)
-        → GraphMeans (value_of m) no_graphs learned.now.sets graph.now inputs.now (outcome_of out.new outcome)) }
-    ensures fits { IfOk result (FitsOutcome (value_of m) (Some graph.now) out.new) }
+    graphs: &[Graph],
+    learned: &[GraphLearned],
+    tables: &[Items<usize>],
+    number: usize,
+    base: usize,
+    stack: &mut Stack,
+    work: &mut [u64],
+) -> Result<(), Singular>
+    requires sound { AreGraphs graphs.now }
+    requires fits { Fits graphs.now learned.now }
+    requires tables { AreTables graphs.now learned.now tables.now }
+    requires work { AreEnoughFor graphs.now (length work.old) }
+    requires there { number < length graphs.now }
+    requires ready { IsReady (value_of m) graphs.now learned.now number base stack.old }
+    ensures size { stack.new.size ≡ stack.old.size }
+    ensures kept { stack.new.kept ≡ stack.old.kept }
+    ensures ok { OnOk result (IsReplaced (value_of m) graphs.now learned.now number base stack.old stack.new) }
+    ensures needed { IfErr result (λ singular. IsNeededAt (slice_get graphs.now number) singular.node) }
+    ensures err { IfErr result (λ singular. IsPrime (value_of m)
+        → GraphValue (value_of m) graphs.now (sets_of learned.now) number (drop base stack.old.words) (SingularAt singular.node singular.cause)) }
 {
-    lists.clear();
-    let lengths = learned.lengths.as_slice();
-    let sets = learned.sets.as_slice();
-    let plans = learned.plans.as_slice();
+    let graph = &graphs[number];
+    let entry = &learned[number];
+    let places = tables[number].as_slice();
     for (place, node) in graph.nodes.as_slice().iter().enumerate() {
-        let own = lengths[place] as usize;
-        let set = sets[place].as_slice();
-        let plan = plans[place].as_ref();
-        match node_list(
-            alloc,
-            m,
-            node,
-            set,
-            plan,
-            own,
-            inputs,
-            lists.as_slice(),
-            words,
-        )? {
-            Ok(list) => lists.push(list)?,
-            Err(cause) => {
-                return Ok(Outcome::Singular(Singular {
-                    node: place as u32,
-                    cause,
-                }));
-            }
+        if let Err(cause) = push_node(m, node, entry, places, place, base, stack, work) {
+            return Err(Singular {
+                node: place as u32,
+                cause,
+            });
         }
     }
-    out.copy_from_slice(named(inputs, lists.as_slice(), graph.output));
-    Ok(Outcome::Defined)
+    let (start, stop) = run_of(places, graph.output);
+    let _top = stack.len();
+    stack.collapse(base, base + start, base + stop);
+    Ok(())
 }

@@ -11,8 +11,8 @@ ghost use Rattle.graph_eval.specs.Learned.{FitsFirst, sets_of};
 use crate::learned::{GraphLearned, Learned};
 use crate::lengths::{learned_of, node_length};
 use crate::outcome::Singular;
-use crate::own::{learn_node, own_list};
-use crate::systems::scratch;
+use crate::own::{learn_node, push_own};
+use crate::systems::greatest_work;
 use graph_file::{Graph, Job};
 use poly_maps::Point;
 use prime_field::Modulus;
@@ -39,34 +39,34 @@ fn learn_graph(alloc: Global, m: Modulus, graph: &Graph, inputs: &[u64]) -> Resu
     ensures fresh { IfOk result (λ fresh. IsPrime (value_of m) → IsFresh (value_of m) no_graphs graph.now inputs.now fresh) }
     ensures fits { IfOk result (FitsFresh graph.now) }
 {
-    let mut scratch = scratch(alloc, graph)?;
-    let words = scratch.as_mut_slice();
+    let mut work = vec![in alloc; 0; greatest_work(graph)]?;
+    let work = work.as_mut_slice();
     let mut sets = Vec::new(alloc);
     let mut plans = Vec::new(alloc);
     let mut lengths = Vec::new(alloc);
-    let mut lists = Vec::new(alloc);
+    let mut words = Vec::from_slice(alloc, inputs)?;
+    let mut places = Vec::new(alloc);
+    places.push(inputs.len())?;
     let mut total = 0;
     for (place, node) in graph.nodes.as_slice().iter().enumerate() {
-        let own = learn_node(alloc, m, node, inputs, lists.as_slice(), words)?;
+        let before = places.as_slice();
+        let own = learn_node(alloc, m, node, words.as_slice(), before, work)?;
         let set = own.set.as_slice();
         let earlier = lengths.as_slice();
         let Some(count) = node_length(alloc, node, set, inputs.len(), earlier, total)? else {
             return Ok(Fresh::Length { node: place as u32 });
         };
-        let before = lists.as_slice();
-        match own_list(alloc, m, node, &own, count as usize, inputs, before, words)? {
-            Ok(list) => lists.push(list)?,
-            Err(cause) => {
-                return Ok(Fresh::Singular(Singular {
-                    node: place as u32,
-                    cause,
-                }));
-            }
+        if let Err(cause) = push_own(m, node, &own, count as usize, &mut words, before, work)? {
+            return Ok(Fresh::Singular(Singular {
+                node: place as u32,
+                cause,
+            }));
         }
+        total += count as usize;
+        places.push(inputs.len() + total)?;
         sets.push(own.set)?;
         plans.push(own.plan)?;
         lengths.push(count)?;
-        total += count as usize;
     }
     let sets = Items::from_vec(sets);
     let plans = Items::from_vec(plans);

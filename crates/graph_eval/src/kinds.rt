@@ -4,26 +4,26 @@ ghost use Rattle.std.specs.Prelude.{◌≡◌, ℕ, ◌+◌, ◌-◌, ◌*◌, �
 ghost use Rattle.prime_field.specs.Modulus.{value_of};
 ghost use Rattle.ratfun_text.specs.Value.{greatest, value};
 ghost use Rattle.basic_nodes.specs.Plain.{chained, matrix_product, multiplied, sliced, summed, taken};
-ghost use Rattle.graph_file.specs.Sound.{IsEarlier};
 ghost use Rattle.graph_file.specs.Line.{all_of};
-ghost use Rattle.graph_eval.specs.GraphValue.{named};
-ghost use Rattle.graph_eval.specs.Reading.{HasLength, IsEntry};
+ghost use Rattle.graph_eval.specs.Reading.{HasLength, IsEntry, IsThere, placed};
 
 use crate::outcome::Cause;
 use basic_nodes::{chain_into, product_into, sum_into, take};
 use graph_file::Source;
 use prime_field::Modulus;
 use ratfun_text::Expr;
-use sqlite_items::Items;
 
-/// The list that a source names: the graph's inputs, or the list of a node.
-pub(crate) fn named<'a>(inputs: &'a [u64], lists: &'a [Items<u64>], source: Source) -> &'a [u64]
-    requires { IsEarlier (length lists.now) source }
-    ensures { result.now ≡ named inputs.now lists.now source }
+/// The list that a source names, the graph's inputs or the list of a node, among words whose lists end at these places.
+pub(crate) fn placed<'a>(words: &'a [u64], places: &[usize], source: Source) -> &'a [u64]
+    requires { IsThere words.now places.now source }
+    ensures { result.now ≡ placed words.now places.now source }
 {
     match source {
-        Source::Input => inputs,
-        Source::Node(place) => lists[place as usize].as_slice(),
+        Source::Input => &words[..places[0]],
+        Source::Node(number) => {
+            let number = number as usize;
+            &words[places[number]..places[number + 1]]
+        }
     }
 }
 
@@ -55,31 +55,26 @@ pub(crate) fn write_values(
 }
 
 /// Writes the entries that parts name, a place for each.
-pub(crate) fn write_taken(
-    parts: &[(Source, u32)],
-    inputs: &[u64],
-    lists: &[Items<u64>],
-    out: &mut [u64],
-)
-    requires entries { All (IsEntry inputs.now lists.now) parts.now }
+pub(crate) fn write_taken(parts: &[(Source, u32)], words: &[u64], places: &[usize], out: &mut [u64])
+    requires entries { All (IsEntry words.now places.now) parts.now }
     requires room { length out.old ≡ length parts.now }
-    ensures { out.new ≡ taken (map (λ part. named inputs.now lists.now part.0) parts.now) (map (λ part. part.1) parts.now) }
+    ensures { out.new ≡ taken (map (λ part. placed words.now places.now part.0) parts.now) (map (λ part. part.1) parts.now) }
 {
     for (place, (from, position)) in parts.iter().enumerate() {
-        let list = named(inputs, lists, *from);
+        let list = placed(words, places, *from);
         take(list, &mut out[place..place + 1], *position as usize - 1);
     }
 }
 
 /// Writes the lists that sources name, one after the other.
-pub(crate) fn write_chained(parts: &[Source], inputs: &[u64], lists: &[Items<u64>], out: &mut [u64])
-    requires there { All (IsEarlier (length lists.now)) parts.now }
-    requires room { length out.old ≡ length (chained (map (named inputs.now lists.now) parts.now)) }
-    ensures { out.new ≡ chained (map (named inputs.now lists.now) parts.now) }
+pub(crate) fn write_chained(parts: &[Source], words: &[u64], places: &[usize], out: &mut [u64])
+    requires there { All (IsThere words.now places.now) parts.now }
+    requires room { length out.old ≡ length (chained (map (placed words.now places.now) parts.now)) }
+    ensures { out.new ≡ chained (map (placed words.now places.now) parts.now) }
 {
     let mut at = 0;
     for part in parts {
-        let list = named(inputs, lists, *part);
+        let list = placed(words, places, *part);
         chain_into(list, out, at);
         at += list.len();
     }
@@ -89,21 +84,20 @@ pub(crate) fn write_chained(parts: &[Source], inputs: &[u64], lists: &[Items<u64
 pub(crate) fn write_sum(
     m: Modulus,
     parts: &[Source],
-    inputs: &[u64],
-    lists: &[Items<u64>],
+    words: &[u64],
+    places: &[usize],
     out: &mut [u64],
 )
     requires some { 0 < length parts.now }
-    requires there { All (IsEarlier (length lists.now)) parts.now }
-    requires same { All (HasLength inputs.now lists.now (length out.old)) parts.now }
-    requires residues { All (λ x. x < value_of m) inputs.now }
-    requires earlier { All (All (λ x. x < value_of m)) lists.now }
-    ensures sum { out.new ≡ summed (value_of m) (map (named inputs.now lists.now) parts.now) }
+    requires there { All (IsThere words.now places.now) parts.now }
+    requires same { All (HasLength words.now places.now (length out.old)) parts.now }
+    requires residues { All (λ x. x < value_of m) words.now }
+    ensures sum { out.new ≡ summed (value_of m) (map (placed words.now places.now) parts.now) }
     ensures residues { All (λ x. x < value_of m) out.new }
 {
-    out.copy_from_slice(named(inputs, lists, parts[0]));
+    out.copy_from_slice(placed(words, places, parts[0]));
     for part in &parts[1..] {
-        sum_into(m, named(inputs, lists, *part), out);
+        sum_into(m, placed(words, places, *part), out);
     }
 }
 
@@ -111,20 +105,19 @@ pub(crate) fn write_sum(
 pub(crate) fn write_product(
     m: Modulus,
     parts: &[Source],
-    inputs: &[u64],
-    lists: &[Items<u64>],
+    words: &[u64],
+    places: &[usize],
     out: &mut [u64],
 )
     requires some { 0 < length parts.now }
-    requires there { All (IsEarlier (length lists.now)) parts.now }
-    requires same { All (HasLength inputs.now lists.now (length out.old)) parts.now }
-    requires residues { All (λ x. x < value_of m) inputs.now }
-    requires earlier { All (All (λ x. x < value_of m)) lists.now }
-    ensures product { out.new ≡ multiplied (value_of m) (map (named inputs.now lists.now) parts.now) }
+    requires there { All (IsThere words.now places.now) parts.now }
+    requires same { All (HasLength words.now places.now (length out.old)) parts.now }
+    requires residues { All (λ x. x < value_of m) words.now }
+    ensures product { out.new ≡ multiplied (value_of m) (map (placed words.now places.now) parts.now) }
     ensures residues { All (λ x. x < value_of m) out.new }
 {
-    out.copy_from_slice(named(inputs, lists, parts[0]));
+    out.copy_from_slice(placed(words, places, parts[0]));
     for part in &parts[1..] {
-        product_into(m, named(inputs, lists, *part), out);
+        product_into(m, placed(words, places, *part), out);
     }
 }

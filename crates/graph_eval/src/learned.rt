@@ -71,6 +71,13 @@ impl Learned {
         &self.graphs.as_slice()[graph as usize]
     }
 
+    /// What was learned of each graph, in the order of the file.
+    pub(crate) fn all(&self) -> &[GraphLearned]
+        ensures { result.now ≡ self.now }
+    {
+        self.graphs.as_slice()
+    }
+
     /// What was learned of the graph that was added last.
     pub(crate) fn last(&self) -> &GraphLearned
         requires { 0 < length self.now }

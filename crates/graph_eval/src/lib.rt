@@ -2,7 +2,7 @@
 //!
 //! [`lengths_of`] gives the lengths of a graph's lists from the rules of its nodes alone, and [`fresh_point`] those of a
 //! graph that solves systems, with the unknowns by which each system tells the others at a point. A [`Worker`] writes the
-//! main graph's output at one point after another.
+//! main graph's output at one point after another, in one block of [`words_needed`] words that is taken when it is made.
 #![tactic(auto)]
 
 mod evaluation;
@@ -11,6 +11,7 @@ mod kinds;
 mod laws;
 mod learned;
 mod lengths;
+mod needs;
 mod outcome;
 mod own;
 mod shapes;
@@ -21,6 +22,7 @@ pub use fresh::{Fresh, fresh_point};
 pub use laws::{one_fresh, one_length, one_measured, one_outcome, one_set, one_solved};
 pub use learned::{GraphLearned, Learned};
 pub use lengths::{has_solver, is_solver, lengths_of};
+pub use needs::words_needed;
 pub use outcome::{Cause, Outcome, Singular};
 pub use worker::{Worker, main_graph};
 

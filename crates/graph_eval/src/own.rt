@@ -1,20 +1,23 @@
 //! What a node learns on the lists before it.
 
-ghost use Rattle.std.specs.Prelude.{◌≡◌, ◌+◌, ◌*◌, ◌≤◌, ◌<◌, All, IfOk, IsTrue, None, OnErr, OnOk, Some, [], false, length, map, true};
+ghost use Rattle.std.specs.Prelude.{◌≡◌, ◌+◌, ◌-◌, ◌*◌, ◌≤◌, ◌<◌, All, IfErr, IfOk, IsTrue, None, OnErr, OnOk, Some, [], false, length, slice_index, true};
 ghost use Rattle.prime_field.specs.Modulus.{value_of};
 ghost use Rattle.prime_field.specs.Residue.{IsPrime};
 ghost use Rattle.elim_core.specs.Kept.{HasSolution};
 ghost use Rattle.elim_core.specs.Solver.{AreUnknowns, IsAscending};
 ghost use Rattle.elim_core.specs.Sparse.{AreSparseRows, entries_of, rows_with};
+ghost use Rattle.graph_file.specs.Needed.{sources_of};
 ghost use Rattle.graph_file.specs.Sound.{IsKind};
-ghost use Rattle.graph_eval.specs.Evaluated.{NodeAnswers, no_graphs};
+ghost use Rattle.graph_eval.specs.Evaluated.{no_graphs};
 ghost use Rattle.graph_eval.specs.Fresh.{HasPlanOrFails, IsOwnOf, NodeLearns};
-ghost use Rattle.graph_eval.specs.GraphValue.{named};
-ghost use Rattle.graph_eval.specs.Learned.{IsSetFor, node_length, plan_of, plan_over};
+ghost use Rattle.graph_eval.specs.GraphValue.{NodeFails};
+ghost use Rattle.graph_eval.specs.Learned.{HasOwnLength, IsSetFor, plan_of, plan_over};
+ghost use Rattle.graph_eval.specs.Reading.{IsThere, placed};
+ghost use Rattle.graph_eval.specs.Stacked.{IsAdded};
 ghost use Rattle.graph_eval.specs.Systems.{rows_in, words_of};
 
-use crate::evaluation::node_list;
-use crate::kinds::named;
+use crate::evaluation::write_list;
+use crate::kinds::placed;
 use crate::outcome::Cause;
 use crate::shapes::entries_of;
 use crate::systems::own_set;
@@ -71,12 +74,12 @@ fn dense_learned(
     rows: usize,
     unknowns: usize,
     list: &[u64],
-    words: &mut [u64],
+    work: &mut [u64],
 ) -> Result<Items<u32>, NoMemory>
     requires few_rows { rows ≤ 512 }
     requires few { unknowns ≤ 511 }
     requires residues { All (λ x. x < value_of m) list.now }
-    requires room { (unknowns + 4) * (unknowns + 2) ≤ length words.old }
+    requires room { (unknowns + 4) * (unknowns + 2) ≤ length work.old }
     ensures own { IfOk result (λ set. IsPrime (value_of m) → IsOwnOf (value_of m) unknowns (rows * (unknowns + 1)) (rows_in rows unknowns list.now) list.now set) }
     ensures ascending { IfOk result IsAscending }
     ensures numbers { IfOk result (AreUnknowns unknowns) }
@@ -84,7 +87,7 @@ fn dense_learned(
     if list.len() != rows * (unknowns + 1) {
         return Ok(Items::new(alloc));
     }
-    own_set(alloc, m, rows, unknowns, list, words)
+    own_set(alloc, m, rows, unknowns, list, work)
 }
 
 /// The rows again.
@@ -141,17 +144,17 @@ pub(crate) fn learn_node(
     alloc: Global,
     m: Modulus,
     node: &Node,
-    inputs: &[u64],
-    lists: &[Items<u64>],
-    words: &mut [u64],
+    words: &[u64],
+    places: &[usize],
+    work: &mut [u64],
 ) -> Result<NodeLearned, NoMemory>
-    requires sound { IsKind (length inputs.now) (length lists.now) node.now.kind }
-    requires words { IsTrue node.now.needed → words_of node.now.kind ≤ length words.old }
-    requires residues { All (λ x. x < value_of m) inputs.now }
-    requires earlier { All (All (λ x. x < value_of m)) lists.now }
-    ensures own { IfOk result (λ own. IsPrime (value_of m) → NodeLearns (value_of m) (named inputs.now lists.now) node.now own.set) }
+    requires sound { IsKind (slice_index places.now 0) (length places.now - 1) node.now.kind }
+    requires there { All (IsThere words.now places.now) (sources_of node.now.kind) }
+    requires work { IsTrue node.now.needed → words_of node.now.kind ≤ length work.old }
+    requires residues { All (λ x. x < value_of m) words.now }
+    ensures own { IfOk result (λ own. IsPrime (value_of m) → NodeLearns (value_of m) (placed words.now places.now) node.now own.set) }
     ensures fits { IfOk result (λ own. IsSetFor node.now own.set) }
-    ensures plan { IfOk result (HasPlanOrFails (value_of m) inputs.now lists.now node.now) }
+    ensures plan { IfOk result (HasPlanOrFails (value_of m) (placed words.now places.now) node.now) }
 {
     if !node.needed {
         return Ok(without_plan(Items::new(alloc)));
@@ -163,9 +166,9 @@ pub(crate) fn learn_node(
             unknowns,
             ..
         } => {
-            let list = named(inputs, lists, *from);
+            let list = placed(words, places, *from);
             let (rows, unknowns) = (*rows as usize, *unknowns as usize);
-            let set = dense_learned(alloc, m, rows, unknowns, list, words)?;
+            let set = dense_learned(alloc, m, rows, unknowns, list, work)?;
             Ok(without_plan(set))
         }
         NodeKind::Sparse {
@@ -174,7 +177,7 @@ pub(crate) fn learn_node(
             rows,
             ..
         } => {
-            let list = named(inputs, lists, *from);
+            let list = placed(words, places, *from);
             let rows = rows.as_slice();
             Ok(sparse_learned(alloc, m, *unknowns, rows, list)?)
         }
@@ -182,44 +185,39 @@ pub(crate) fn learn_node(
     }
 }
 
-/// The list of a node over what it learned, which is empty where the node isn't needed, or the cause where it is needed and
-/// has no value.
-pub(crate) fn own_list(
-    alloc: Global,
+/// Appends the list of a node over what it learned, which is empty where the node isn't needed, or tells the cause where it
+/// is needed and has no value. Then nothing is known of the words.
+pub(crate) fn push_own(
     m: Modulus,
     node: &Node,
     own: &NodeLearned,
     count: usize,
-    inputs: &[u64],
-    lists: &[Items<u64>],
-    words: &mut [u64],
-) -> Result<Result<Items<u64>, Cause>, NoMemory>
-    requires sound { IsKind (length inputs.now) (length lists.now) node.now.kind }
+    words: &mut Vec<u64>,
+    places: &[usize],
+    work: &mut [u64],
+) -> Result<Result<(), Cause>, NoMemory>
+    requires sound { IsKind (slice_index places.now 0) (length places.now - 1) node.now.kind }
+    requires there { All (IsThere words.old.items places.now) (sources_of node.now.kind) }
     requires set { IsSetFor node.now own.now.set }
-    requires plan { HasPlanOrFails (value_of m) inputs.now lists.now node.now own.now }
-    requires words { IsTrue node.now.needed → words_of node.now.kind ≤ length words.old }
-    requires residues { All (λ x. x < value_of m) inputs.now }
-    requires earlier { All (All (λ x. x < value_of m)) lists.now }
-    requires room { node_length (length inputs.now) (map length lists.now) own.now.set node.now ≡ Some count }
-    ensures value { IfOk result (λ list. IsPrime (value_of m) → NodeAnswers (value_of m) no_graphs own.now.set (named inputs.now lists.now) node.now list) }
-    ensures needed { IfOk result (λ list. OnErr list (IsTrue node.now.needed)) }
-    ensures length { IfOk result (λ list. IfOk list (λ xs. length xs ≡ count)) }
-    ensures residues { IfOk result (λ list. IfOk list (All (λ x. x < value_of m))) }
-    ensures planned { IfOk result (λ list. OnOk list (own.now.plan ≡ plan_of own.now.set node.now)) }
+    requires plan { HasPlanOrFails (value_of m) (placed words.old.items places.now) node.now own.now }
+    requires work { IsTrue node.now.needed → words_of node.now.kind ≤ length work.old }
+    requires residues { All (λ x. x < value_of m) words.old.items }
+    requires room { HasOwnLength (placed words.old.items places.now) own.now.set node.now count }
+    ensures ok { IfOk result (λ answer. OnOk answer (IsAdded (value_of m) no_graphs own.now.set (placed words.old.items places.now) node.now count words.old.items words.new.items)) }
+    ensures err { IfOk result (λ answer. IfErr answer (λ cause. IsPrime (value_of m) → NodeFails (value_of m) no_graphs own.now.set (placed words.old.items places.now) node.now cause)) }
+    ensures needed { IfOk result (λ answer. OnErr answer (IsTrue node.now.needed)) }
+    ensures planned { IfOk result (λ answer. OnOk answer (own.now.plan ≡ plan_of own.now.set node.now)) }
 {
     if !own.planned {
         return Ok(Err(Cause::System));
     }
+    if !node.needed {
+        return Ok(Ok(()));
+    }
+    let set = own.set.as_slice();
     let plan = own.plan.as_ref();
-    node_list(
-        alloc,
-        m,
-        node,
-        own.set.as_slice(),
-        plan,
-        count,
-        inputs,
-        lists,
-        words,
-    )
+    let len = words.len();
+    words.resize(len + count, 0)?;
+    let (before, out) = words.as_mut_slice().split_at_mut(len);
+    Ok(write_list(m, &node.kind, set, plan, before, places, work, out))
 }

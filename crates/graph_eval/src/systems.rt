@@ -8,7 +8,8 @@ ghost use Rattle.elim_core.specs.Kept.{HasSolution};
 ghost use Rattle.elim_core.specs.Solved.{IsKept, IsOwnSet, IsSolved};
 ghost use Rattle.elim_core.specs.Solver.{AreUnknowns, HasSolverValue, IsAscending};
 ghost use Rattle.graph_file.specs.Sound.{IsGraph};
-ghost use Rattle.graph_eval.specs.Systems.{AreEnough, HasFewUnknowns, rows_in, words_of};
+ghost use Rattle.graph_eval.specs.Learned.{AreGraphs};
+ghost use Rattle.graph_eval.specs.Systems.{AreEnoughFor, HasFewUnknowns, greatest_work, rows_in, work_of};
 
 use elim_core::{Elim, Rank};
 use graph_file::{Graph, Node, NodeKind};
@@ -17,10 +18,10 @@ use ratfun_text::NoMemory;
 use sqlite_items::Items;
 use std::alloc::Global;
 
-/// How many words a node wants for its system, 0 where it isn't needed or solves none.
-fn words_of(node: &Node) -> usize
+/// How many words a node wants for its work beside its list, 0 where it isn't needed.
+fn work_of(node: &Node) -> usize
     requires { HasFewUnknowns node.now.kind }
-    ensures { IsTrue node.now.needed → words_of node.now.kind ≤ result }
+    ensures { result ≡ work_of node.now }
 {
     if !node.needed {
         return 0;
@@ -33,24 +34,28 @@ fn words_of(node: &Node) -> usize
     }
 }
 
-/// How many words are enough for each system that is solved in a graph.
-fn most_words(graph: &Graph) -> usize
+/// The most words that a node of a graph wants for its work.
+pub(crate) fn greatest_work(graph: &Graph) -> usize
     requires { IsGraph graph.now }
-    ensures { AreEnough graph.now.nodes result }
+    ensures { result ≡ greatest_work graph.now.nodes }
 {
     let mut most = 0;
     for node in graph.nodes.as_slice() {
-        most = words_of(node).max(most);
+        most = work_of(node).max(most);
     }
     most
 }
 
-/// Words that are enough for each system that is solved in a graph.
-pub(crate) fn scratch(alloc: Global, graph: &Graph) -> Result<Vec<u64>, NoMemory>
-    requires { IsGraph graph.now }
-    ensures { IfOk result (λ words. AreEnough graph.now.nodes (vec_len words)) }
+/// Words that are enough for each system that is solved in the graphs.
+pub(crate) fn work_for(alloc: Global, graphs: &[Graph]) -> Result<Vec<u64>, NoMemory>
+    requires { AreGraphs graphs.now }
+    ensures { IfOk result (λ work. AreEnoughFor graphs.now (vec_len work)) }
 {
-    Ok(vec![in alloc; 0; most_words(graph)]?)
+    let mut most = 0;
+    for graph in graphs {
+        most = greatest_work(graph).max(most);
+    }
+    Ok(vec![in alloc; 0; most]?)
 }
 
 /// Absorbs each row of a system once, in words of which there are enough, or answers nothing where it has no solution.

@@ -63,7 +63,7 @@ fn told_by(rt: &HostRuntime, text: &str) -> Result<Told, Fail> {
     let mut out = vec![in alloc; 0; learned.outputs()]?;
     let point = points.last().ok_or("no point")?;
     let m = Modulus::first();
-    match worker.eval_point(alloc, &job, &learned, m, point, out.as_mut_slice())? {
+    match worker.eval_point(&job, &learned, m, point, out.as_mut_slice()) {
         Outcome::Defined => Ok(Told::Values(out)),
         Outcome::Singular(singular) => Ok(Told::Singular(singular)),
     }
@@ -248,6 +248,46 @@ fn lengths_alone_are_learned_of_a_plain_graph(rt: HostRuntime) -> Result<(), Fai
         return Err(Fail::from("a wrong length"));
     };
     assert_eq!(rt; entry.output, 4);
+    Ok(())
+}
+
+#[test]
+fn all_words_are_free_behind_each_point(rt: HostRuntime) -> Result<(), Fail> {
+    let alloc = rt.alloc();
+    let text =
+        "flow 1\ngraph main\ninput x y\nnode a eval input = 1;1;x;1;0-1;1/y\nnode s dense a 2 2 want 2 1\noutput s\npoint 3 5\npoint 3 0\n";
+    let job = job_of(alloc, text)?;
+    let points = job.points.as_slice();
+    let first = points.first().ok_or("no point")?;
+    let last = points.last().ok_or("no point")?;
+    let Ok(learned) = learn(alloc, &job, first)? else {
+        return Err(Fail::from("nothing is learned"));
+    };
+    assert_eq!(rt; words_needed(&job, &learned), 34);
+    let mut worker = Worker::new(alloc, &job, &learned)?;
+    assert_eq!(rt; worker.free_words(), 34);
+    let mut out = vec![in alloc; 0; learned.outputs()]?;
+    let values = out.as_mut_slice();
+    let m = Modulus::second();
+    assert_eq!(rt;
+        worker.eval_point(&job, &learned, m, first, values),
+        Outcome::Defined
+    );
+    assert_eq!(rt; worker.free_words(), 34);
+    let undefined = Outcome::Singular(Singular {
+        node: 0,
+        cause: Cause::Division,
+    });
+    assert_eq!(rt;
+        worker.eval_point(&job, &learned, m, last, values),
+        undefined
+    );
+    assert_eq!(rt; worker.free_words(), 34);
+    assert_eq!(rt;
+        worker.eval_point(&job, &learned, m, first, values),
+        Outcome::Defined
+    );
+    assert_eq!(rt; worker.free_words(), 34);
     Ok(())
 }
 

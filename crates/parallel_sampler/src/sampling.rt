@@ -51,7 +51,7 @@ pub fn sample(
     let mut words = Vec::with_capacity(alloc, points.len() * outputs)?;
     let mut told = Vec::with_capacity(alloc, points.len())?;
     for point in points {
-        let outcome = worker.eval_point(alloc, job, learned, m, point, values)?;
+        let outcome = worker.eval_point(job, learned, m, point, values);
         words.extend_from_slice(values)?;
         told.push(told_by(outcome))?;
     }

@@ -1,11 +1,11 @@
 -- What was learned of the nodes so far.
 use Rattle.prime_field.specs.Modulus.{value_of}
-use Rattle.graph_eval.proofs.FreshLaws.{LearnedSoFar}
+use Rattle.graph_eval.proofs.FreshLaws.{LearnedStand}
 use Rattle.graph_eval.proofs.LengthLaws.{PlansSoFar}
 use Rattle.graph_eval.proofs.fresh.learn_graph.Given as goal
 
 abbrev pub invariant-loop-place : goal.invariant-loop-place
 invariant-loop-place l = record {
-  so_far : LearnedSoFar (value_of l.m) l.graph l.inputs l.sets.items l.lengths.items l.lists.items l.place l.total;
+  stands : LearnedStand (value_of l.m) l.graph l.inputs l.sets.items l.lengths.items l.words.items l.places.items l.place l.total;
   plans : PlansSoFar l.graph.nodes l.sets.items l.plans.items l.place;
 }

@@ -3,42 +3,40 @@ use Rattle.std.proofs.Common.{◌+◌, ◌<◌, [], ◌∷◌, length, get_or, s
 use Rattle.std.proofs.lemmas.List.Elements.{All-get_or, All-same}
 use Rattle.prime_field.specs.Modulus.{value_of}
 use Rattle.graph_file.specs.declared.graph.Source.TheVariants as source
-use Rattle.graph_file.specs.Sound.{IsEarlier}
 use Rattle.basic_nodes.specs.Plain.{summed}
-use Rattle.graph_eval.specs.GraphValue.{named}
-use Rattle.graph_eval.specs.Reading.{HasLength}
-use Rattle.graph_eval.proofs.Writing.{behind_below, behind_first, named_residues, sum_first, sum_next}
+use Rattle.graph_eval.specs.Reading.{HasLength, IsThere, placed}
+use Rattle.graph_eval.proofs.Writing.{behind_below, behind_first, placed_residues, sum_first, sum_next}
 use Rattle.graph_eval.proofs.kinds.write_sum.Goals as goal
 
 pub loop-part-init : goal.loop-part-init
 loop-part-init c =
     let m = value_of c.args.m in
-    let is = c.copy_from_slice.ensures.after ∙ c.named.ensures in
-    let low = All-same (λ x. x < m) _ _ is (named_residues m c.args.inputs.now c.args.lists.now (get_or c.args.parts.now 0 source.Input) c.requires.residues c.requires.earlier) in
-    record { sum = sum_first m (named c.args.inputs.now c.args.lists.now) c.args.parts.now source.Input _ c.requires.some is low; residues = low }
+    let is = c.copy_from_slice.ensures.after ∙ c.placed.ensures in
+    let low = All-same (λ x. x < m) _ _ is (placed_residues m c.args.words.now c.args.places.now (get_or c.args.parts.now 0 source.Input) c.requires.residues) in
+    record { sum = sum_first m (placed c.args.words.now c.args.places.now) c.args.parts.now source.Input _ c.requires.some is low; residues = low }
 
-pub named-requires-in-loop-part : goal.named-requires-in-loop-part
-named-requires-in-loop-part c =
-    subst (IsEarlier (length c.args.lists.now)) (sym (behind_first c.args.parts.now c.loop-part.part-index source.Input c.loop-part-test.true))
-    (All-get_or (IsEarlier (length c.args.lists.now)) c.args.parts.now (c.loop-part.part-index + 1) source.Input (behind_below c.args.parts.now c.loop-part.part-index c.loop-part-test.true) c.requires.there)
+pub placed-requires-in-loop-part : goal.placed-requires-in-loop-part
+placed-requires-in-loop-part c =
+    subst (IsThere c.args.words.now c.args.places.now) (sym (behind_first c.args.parts.now c.loop-part.part-index source.Input c.loop-part-test.true))
+    (All-get_or (IsThere c.args.words.now c.args.places.now) c.args.parts.now (c.loop-part.part-index + 1) source.Input (behind_below c.args.parts.now c.loop-part.part-index c.loop-part-test.true) c.requires.there)
 
 pub sum_into-requires-clause-lengths : goal.sum_into-requires-clause-lengths
 sum_into-requires-clause-lengths c =
-    let same = All-get_or (HasLength c.args.inputs.now c.args.lists.now (length c.args.out.now)) c.args.parts.now (c.loop-part.part-index + 1) source.Input (behind_below c.args.parts.now c.loop-part.part-index c.loop-part-test.true) c.requires.same in
-    let is = c.named-in-loop-part.ensures ∙ ap (named c.args.inputs.now c.args.lists.now) (behind_first c.args.parts.now c.loop-part.part-index source.Input c.loop-part-test.true) in
+    let same = All-get_or (HasLength c.args.words.now c.args.places.now (length c.args.out.now)) c.args.parts.now (c.loop-part.part-index + 1) source.Input (behind_below c.args.parts.now c.loop-part.part-index c.loop-part-test.true) c.requires.same in
+    let is = c.placed-in-loop-part.ensures ∙ ap (placed c.args.words.now c.args.places.now) (behind_first c.args.parts.now c.loop-part.part-index source.Input c.loop-part-test.true) in
     ap length is ∙ same ∙ omega arith
 
 pub sum_into-requires-clause-summands : goal.sum_into-requires-clause-summands
 sum_into-requires-clause-summands c =
     let m = value_of c.args.m in
-    let is = c.named-in-loop-part.ensures ∙ ap (named c.args.inputs.now c.args.lists.now) (behind_first c.args.parts.now c.loop-part.part-index source.Input c.loop-part-test.true) in
-    All-same (λ x. x < m) _ _ is (named_residues m c.args.inputs.now c.args.lists.now (get_or c.args.parts.now (c.loop-part.part-index + 1) source.Input) c.requires.residues c.requires.earlier)
+    let is = c.placed-in-loop-part.ensures ∙ ap (placed c.args.words.now c.args.places.now) (behind_first c.args.parts.now c.loop-part.part-index source.Input c.loop-part-test.true) in
+    All-same (λ x. x < m) _ _ is (placed_residues m c.args.words.now c.args.places.now (get_or c.args.parts.now (c.loop-part.part-index + 1) source.Input) c.requires.residues)
 
 pub loop-part-preserved : goal.loop-part-preserved
 loop-part-preserved c =
-    let list = named c.args.inputs.now c.args.lists.now in
+    let list = placed c.args.words.now c.args.places.now in
     let m = value_of c.args.m in
-    let is = c.named-in-loop-part.ensures ∙ ap list (behind_first c.args.parts.now c.loop-part.part-index source.Input c.loop-part-test.true) in
+    let is = c.placed-in-loop-part.ensures ∙ ap list (behind_first c.args.parts.now c.loop-part.part-index source.Input c.loop-part-test.true) in
     record {
       sum = sum_next m list c.args.parts.now c.loop-part.part-index source.Input c.loop-part.out _ (behind_below c.args.parts.now c.loop-part.part-index c.loop-part-test.true) c.loop-part.invariant.sum (c.sum_into.ensures.sum ∙ ap (λ xs. summed m (c.loop-part.out ∷ xs ∷ [])) is);
       residues = c.sum_into.ensures.residues;

@@ -13,12 +13,12 @@ loop-point-preserved c =
     let m = value_of c.args.m in
     let graphs = c.args.job.now.graphs in
     let learned = c.args.learned.now in
-    let own : length c.eval_point.new.out ≡ outputs_of c.args.learned.now = omega (arith, c.loop-point.invariant.1, c.eval_point.auto.out) in (
-      c.in_ok-outcome.ensures.made,
+    let own : length c.eval_point-outcome.new.out ≡ outputs_of c.args.learned.now = omega (arith, c.loop-point.invariant.1, c.eval_point-outcome.auto.out) in (
+      c.eval_point-outcome.ensures.made,
       own,
-      table_next m (IsPrime m) (GraphValue m graphs (sets_of learned) (main_number graphs)) (slice_get graphs (main_number graphs)) (outputs_of learned) c.args.points.now c.loop-point.point-index c.loop-point.words.items c.eval_point.new.out
-          c.extend_from_slice.new.self.items c.loop-point.told.items c.push.new.self.items c.told_by.result c.point-item.result c.in_ok-outcome.outcome c.loop-point.invariant.2 c.loop-point-test.true c.point-item.is own
-          (c.told_by.ensures c.eval_point.new.out) c.in_ok-outcome.ensures.value c.in_ok-outcome.ensures.fits c.in_ok-extend_from_slice.ensures.items c.in_ok-push.ensures.items,
+      table_next m (IsPrime m) (GraphValue m graphs (sets_of learned) (main_number graphs)) (slice_get graphs (main_number graphs)) (outputs_of learned) c.args.points.now c.loop-point.point-index c.loop-point.words.items c.eval_point-outcome.new.out
+          c.extend_from_slice.new.self.items c.loop-point.told.items c.push.new.self.items c.told_by.result c.point-item.result c.eval_point-outcome.result c.loop-point.invariant.2 c.loop-point-test.true c.point-item.is own
+          (c.told_by.ensures c.eval_point-outcome.new.out) c.eval_point-outcome.ensures.value c.eval_point-outcome.ensures.fits c.in_ok-extend_from_slice.ensures.items c.in_ok-push.ensures.items,
     )
 
 pub returns-clause-count : goal.returns-clause-count

@@ -11,5 +11,5 @@ use Rattle.parallel_sampler.proofs.sampling.sample.Given as goal
 
 abbrev pub invariant-loop-point : goal.invariant-loop-point
 invariant-loop-point l =
-    IsMadeFor l.job.graphs l.worker × (length l.values ≡ outputs_of l.learned) ×
+    IsMadeFor l.job.graphs l.learned l.worker × (length l.values ≡ outputs_of l.learned) ×
     IsTable (value_of l.m) (IsPrime (value_of l.m)) (GraphValue (value_of l.m) l.job.graphs (sets_of l.learned) (main_number l.job.graphs)) (slice_get l.job.graphs (main_number l.job.graphs)) (outputs_of l.learned) l.points l.point-index l.words.items l.told.items

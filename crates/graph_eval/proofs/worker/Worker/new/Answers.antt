@@ -1,6 +1,10 @@
--- The main graph is one of the job's, each of which is sound.
-use Rattle.graph_eval.specs.GraphValue.{main_number}
+-- Each graph of a job is sound.
+use Rattle.std.proofs.Common.{subst, sym}
+use Rattle.graph_eval.specs.Learned.{AreGraphs}
 use Rattle.graph_eval.proofs.worker.Worker.new.Goals as goal
 
-pub scratch-requires : goal.scratch-requires
-scratch-requires c = c.args.job.now.sound.graph (main_number c.args.job.now.graphs) c.main_graph-graph.result.now c.main_graph-graph.ensures
+pub work_for-requires : goal.work_for-requires
+work_for-requires c = subst AreGraphs (sym c.as_slice-graphs.ensures) (record { graph = c.args.job.now.sound.graph })
+
+pub tables_of-requires-clause-sound : goal.tables_of-requires-clause-sound
+tables_of-requires-clause-sound c = subst AreGraphs (sym c.as_slice-graphs.ensures) (record { graph = c.args.job.now.sound.graph })

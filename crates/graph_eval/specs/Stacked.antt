@@ -1,0 +1,33 @@
+-- Evaluating a graph on a stack of words: its inputs are on top, and its output takes their place.
+use Rattle.std.specs.Prelude.{◌≡◌, ℕ, ◌+◌, ◌<◌, ◌≤◌, All, List, ◌++◌, length, take, drop, slice_get, Some}
+use Rattle.word_region.specs.Board.{Board}
+use Rattle.prime_field.specs.Residue.{IsPrime}
+use Rattle.graph_file.specs.declared.graph.Graph.{Graph}
+use Rattle.graph_file.specs.declared.graph.Node.{Node}
+use Rattle.graph_file.specs.declared.graph.Source.{Source}
+use Rattle.graph_eval.specs.declared.learned.GraphLearned.{GraphLearned}
+use Rattle.graph_eval.specs.GraphValue.{GraphValue, Meaning, NodeGives, Value}
+use Rattle.graph_eval.specs.Learned.{sets_of}
+use Rattle.graph_eval.specs.Needs.{words_for}
+
+-- the words from a place on are the graph's inputs, and there is room for what it needs
+pub record IsReady (m : ℕ) (graphs : List Graph) (learned : List GraphLearned) (number base : ℕ) (board : Board) : Type 0 where
+  pub inputs : (graph : Graph) → slice_get graphs number ≡ Some graph → length board.words ≡ base + length graph.inputs
+  pub room : base + words_for graphs learned number ≤ board.size
+  pub low : All (λ x. x < m) (drop base board.words)
+
+-- the graph's output stands in place of its inputs, and the words before them as they were
+pub record IsReplaced (m : ℕ) (graphs : List Graph) (learned : List GraphLearned) (number base : ℕ) (old new : Board) : Type 0 where
+  pub values : List ℕ
+  pub words : new.words ≡ take base old.words ++ values
+  pub value : IsPrime m → GraphValue m graphs (sets_of learned) number (drop base old.words) (Value values)
+  pub low : All (λ x. x < m) values
+  pub long : (entry : GraphLearned) → slice_get learned number ≡ Some entry → length values ≡ entry.output
+
+-- a node's list, of so many entries, stands behind the words that were there
+pub record IsAdded (m : ℕ) (called : ℕ → Meaning) (set : List ℕ) (list : Source → List ℕ) (node : Node) (own : ℕ) (old new : List ℕ) : Type 0 where
+  pub values : List ℕ
+  pub words : new ≡ old ++ values
+  pub gives : IsPrime m → NodeGives m called set list node values
+  pub low : All (λ x. x < m) values
+  pub long : length values ≡ own
