@@ -72,18 +72,18 @@ multiple-scaled m f s p made other q unit made_alike other_alike k =
     (sym (product-alike_right m q made (multiple s p) made_alike k)) ∙
     ap (λ x. x % m) (sym (product-multiple_left f q made k))
 
--- the pair, scaled so that its denominator has leading coefficient 1, is the least
-pub least-scaled : (m k n : ℕ) (t v : ℕ → ℕ) (a b e d s : ℕ) (above rest earlier factor num den : List ℕ) → suc k ≡ m → 1 < m → AreApart m n t →
-    Stopped m n t v a e d above rest earlier factor → a + b < n → d ≤ b → (slice_index factor d * s) % m ≡ 1 →
-    Alike m num (multiple s rest) → Alike m den (multiple s factor) → IsLeastPair m n t v a b num den
-least-scaled m k n t v a b e d s above rest earlier factor num den predecessor large apart stopped few within unit num_alike den_alike =
+-- a pair of which each agreeing pair is a multiple, scaled so that its denominator has leading coefficient 1, is the least
+pub least-of_multiples : (m n : ℕ) (t v : ℕ → ℕ) (a b d s : ℕ) (rest factor num den : List ℕ) → 1 < m → IsBelow m (suc a) rest → IsBelow m (suc d) factor →
+    AgreesAt m n t v rest factor → d ≤ b → (slice_index factor d * s) % m ≡ 1 → Alike m num (multiple s rest) → Alike m den (multiple s factor) →
+    ((other_num other_den : List ℕ) → IsAgreeing m n t v a b other_num other_den → IsMultiple m rest factor other_num other_den) → IsLeastPair m n t v a b num den
+least-of_multiples m n t v a b d s rest factor num den large rest_low factor_below agree within unit num_alike den_alike multiple_of =
     record {
       agreeing = record {
-        num_degree = below-alike m (suc a) num (multiple s rest) num_alike (below-multiple m (suc a) s rest stopped.rest_low);
+        num_degree = below-alike m (suc a) num (multiple s rest) num_alike (below-multiple m (suc a) s rest rest_low);
         den_degree = below-more m (suc d) (suc b) den (omega arith) den_below;
         some = λ vanish. absurd (omega (arith, sym (vanish d) ∙ den_last));
         agrees = agrees-alike m n t v (multiple s rest) (multiple s factor) num den (λ i. sym (num_alike i)) (λ i. sym (den_alike i))
-            (agrees-multiple m n s t v rest factor stopped.agree.1);
+            (agrees-multiple m n s t v rest factor agree);
       };
       least = λ other_num other_den agreeing bound below.
           elim (cases_lt d bound) [
@@ -94,14 +94,14 @@ least-scaled m k n t v a b e d s above rest earlier factor num den predecessor l
     }
   where
     den_below : IsBelow m (suc d) den
-    den_below = below-alike m (suc d) den (multiple s factor) den_alike (below-multiple m (suc d) s factor stopped.remainders.factor_below)
+    den_below = below-alike m (suc d) den (multiple s factor) den_alike (below-multiple m (suc d) s factor factor_below)
 
     den_last : slice_index den d % m ≡ 1
     den_last = den_alike d ∙ ap (λ x. x % m) (at-multiple s factor d ∙ omega arith) ∙ unit
 
     multiples : (other_num other_den : List ℕ) → IsAgreeing m n t v a b other_num other_den → IsMultiple m num den other_num other_den
     multiples other_num other_den agreeing =
-        let found = Stopped-multiple m k n t v a b e d above rest earlier factor other_num other_den predecessor apart stopped few within agreeing in (
+        let found = multiple_of other_num other_den agreeing in (
           multiple (slice_index factor d) found.0,
           multiple-scaled m (slice_index factor d) s rest num other_num found.0 unit num_alike found.1,
           multiple-scaled m (slice_index factor d) s factor den other_den found.0 unit den_alike found.2,
@@ -115,6 +115,15 @@ least-scaled m k n t v a b e d s above rest earlier factor num den predecessor l
         (below-cancel m 0 d found.0 den den_below (1, large, ap (λ x. x % m) (mul-one (slice_index den d)) ∙ den_last)
         (λ j from. sym (found.2 j) ∙ below j (omega arith))) in
         found.2 i ∙ product-vanish m found.0 den none i
+
+-- so is the pair at which the remainders stop
+pub least-scaled : (m k n : ℕ) (t v : ℕ → ℕ) (a b e d s : ℕ) (above rest earlier factor num den : List ℕ) → suc k ≡ m → 1 < m → AreApart m n t →
+    Stopped m n t v a e d above rest earlier factor → a + b < n → d ≤ b → (slice_index factor d * s) % m ≡ 1 →
+    Alike m num (multiple s rest) → Alike m den (multiple s factor) → IsLeastPair m n t v a b num den
+least-scaled m k n t v a b e d s above rest earlier factor num den predecessor large apart stopped few within unit num_alike den_alike =
+    least-of_multiples m n t v a b d s rest factor num den large stopped.rest_low stopped.remainders.factor_below stopped.agree.1 within unit num_alike den_alike
+    (λ other_num other_den agreeing.
+    Stopped-multiple m k n t v a b e d above rest earlier factor other_num other_den predecessor apart stopped few within agreeing)
 
 -- a pair that stands in the front of the words
 pub at_front : (P : List ℕ → List ℕ → Type 0) (o : Option (ℕ × ℕ)) (front others : List ℕ) → IfSome o (λ r. r.0 + r.1 ≤ length front) →

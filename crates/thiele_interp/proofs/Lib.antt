@@ -4,3 +4,7 @@ pub mod Turns
 pub mod Ends
 pub mod Same
 pub mod Written
+pub mod Forms
+pub mod Closing
+pub mod Advanced
+pub mod Rising

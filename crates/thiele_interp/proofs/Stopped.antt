@@ -14,7 +14,7 @@ use Rattle.thiele_interp.specs.Pairs.{AgreesAt, IsAgreeing, IsMultiple}
 use Rattle.thiele_interp.specs.Remainders.{AreRemainders, BothAgree}
 
 -- a product that is below a bound place by place
-below-factors : (m e f n : ℕ) (p q : List ℕ) → e + f ≤ n + 1 → IsBelow m e p → IsBelow m f q → IsBelow m n (product_of p q)
+pub below-factors : (m e f n : ℕ) (p q : List ℕ) → e + f ≤ n + 1 → IsBelow m e p → IsBelow m f q → IsBelow m n (product_of p q)
 below-factors m e f n p q low left right k from = below-product m e f p q left right k (omega arith)
 
 -- of two agreeing pairs, each numerator times the other denominator is the same, where the degrees are below the
@@ -108,7 +108,7 @@ Stopped-none m k n t v a b e d above rest earlier factor num den predecessor apa
     (below-more m (suc a) e num (omega arith) agreeing.num_degree) high agreeing.den_degree).1
 
 -- what is left of an agreeing pair once q times another is taken away agrees too
-left_agrees : (m k n : ℕ) (t v : ℕ → ℕ) (rest factor num den q r : List ℕ) → suc k ≡ m → AgreesAt m n t v rest factor → AgreesAt m n t v num den →
+pub left_agrees : (m k n : ℕ) (t v : ℕ → ℕ) (rest factor num den q r : List ℕ) → suc k ≡ m → AgreesAt m n t v rest factor → AgreesAt m n t v num den →
     Alike m den (sum_of r (product_of q factor)) → AgreesAt m n t v (sum_of num (multiple k (product_of q rest))) r
 left_agrees m k n t v rest factor num den q r predecessor agrees other_agrees whole i low =
     let x = t i in
@@ -130,20 +130,20 @@ left_agrees m k n t v rest factor num den q r predecessor agrees other_agrees wh
     ap (λ s. s % m) (omega arith)
 
 -- nothing left of a difference: the two are alike
-alike_by_nothing : (m k : ℕ) (p q : List ℕ) → suc k ≡ m → AllVanish m (sum_of p (multiple k q)) → Alike m p q
+pub alike_by_nothing : (m k : ℕ) (p q : List ℕ) → suc k ≡ m → AllVanish m (sum_of p (multiple k q)) → Alike m p q
 alike_by_nothing m k p q predecessor nothing i =
     same_of_difference m k (slice_index p i) (slice_index q i) predecessor
     (ap (λ s. s % m) (ap (λ s. slice_index p i + s) (sym (at-multiple k q i)) ∙ sym (at-sum p (multiple k q) i)) ∙ nothing i)
 
 -- a remainder that vanishes leaves a product
-alike_without : (m : ℕ) (p r q : List ℕ) → Alike m p (sum_of r q) → AllVanish m r → Alike m p q
+pub alike_without : (m : ℕ) (p r q : List ℕ) → Alike m p (sum_of r q) → AllVanish m r → Alike m p q
 alike_without m p r q whole nothing i =
     whole i ∙ ap (λ s. s % m) (at-sum r q i) ∙
     add-cong m (slice_index r i) 0 (slice_index q i) (slice_index q i) (nothing i ∙ sym (zero-mod m)) refl ∙
     ap (λ s. s % m) (omega arith)
 
 -- the bound of a quotient
-quotient_low : (m d b : ℕ) (factor den q r : List ℕ) → IsBelow m (suc d) factor → IsUnit m (slice_index factor d) → d ≤ b → IsBelow m (suc b) den → IsDivided m d factor den q r →
+pub quotient_low : (m d b : ℕ) (factor den q r : List ℕ) → IsBelow m (suc d) factor → IsUnit m (slice_index factor d) → d ≤ b → IsBelow m (suc b) den → IsDivided m d factor den q r →
     IsBelow m (suc b - d) q
 quotient_low m d b factor den q r factor_below unit few den_below divided =
     below-cancel m (suc b - d) d q factor factor_below unit

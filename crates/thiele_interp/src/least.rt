@@ -10,6 +10,7 @@ ghost use Rattle.thiele_interp.specs.Pairs.{IsAgreeing, IsLeastPair, IsReducedPa
 
 use crate::NoMemory;
 use crate::euclid::descend;
+use crate::thiele::thiele_up_to;
 use newton_interp::interpolate;
 use prime_field::Modulus;
 use std::alloc::Global;
@@ -64,7 +65,66 @@ pub fn least_pair(
 
 /// The same with nothing allocated. The coefficients of the numerator stand first in `work`, those of the denominator
 /// directly after; the answer is their numbers. What `work` holds doesn't matter, and all of it may be overwritten.
+///
+/// Thiele's form is tried first, as long as it costs little beside Euclid's remainders.
 pub fn least_pair_over(
+    m: Modulus,
+    points: &[u64],
+    values: &[u64],
+    a: usize,
+    b: usize,
+    work: &mut [u64],
+) -> Option<(usize, usize)>
+    requires lengths { length values.now ≡ length points.now }
+    requires few { a + b < length points.now }
+    requires room { 12 * (length points.now + 2) ≤ length work.old }
+    requires points { AreResidues (value_of m) points.now }
+    requires values { AreResidues (value_of m) values.now }
+    requires apart { AreApart (value_of m) (length points.now) (slice_index points.now) }
+    ensures room { IfSome result (λ r. r.0 + r.1 ≤ length work.new) }
+    ensures reduced { IfSome result (λ r. IsReducedPair (value_of m) (take r.0 work.new) (take r.1 (drop r.0 work.new))) }
+    ensures least { IfSome result (λ r. IsLeastPair (value_of m) (length points.now) (slice_index points.now) (slice_index values.now) a b
+        (take r.0 work.new) (take r.1 (drop r.0 work.new))) }
+    ensures none { IfNone result (IsPrime (value_of m) → (num den : List ℕ) →
+        IsAgreeing (value_of m) (length points.now) (slice_index points.now) (slice_index values.now) a b num den → ⊥) }
+{
+    let levels = points.len() / 13;
+    let found = least_pair_up_to(m, points, values, a, b, levels, work);
+    found
+}
+
+/// The same with a bound on the levels of Thiele's form that are tried before Euclid's remainders. With 0 levels the
+/// remainders alone are used. The answer doesn't depend on it.
+pub fn least_pair_up_to(
+    m: Modulus,
+    points: &[u64],
+    values: &[u64],
+    a: usize,
+    b: usize,
+    levels: usize,
+    work: &mut [u64],
+) -> Option<(usize, usize)>
+    requires lengths { length values.now ≡ length points.now }
+    requires few { a + b < length points.now }
+    requires room { 12 * (length points.now + 2) ≤ length work.old }
+    requires points { AreResidues (value_of m) points.now }
+    requires values { AreResidues (value_of m) values.now }
+    requires apart { AreApart (value_of m) (length points.now) (slice_index points.now) }
+    ensures room { IfSome result (λ r. r.0 + r.1 ≤ length work.new) }
+    ensures reduced { IfSome result (λ r. IsReducedPair (value_of m) (take r.0 work.new) (take r.1 (drop r.0 work.new))) }
+    ensures least { IfSome result (λ r. IsLeastPair (value_of m) (length points.now) (slice_index points.now) (slice_index values.now) a b
+        (take r.0 work.new) (take r.1 (drop r.0 work.new))) }
+    ensures none { IfNone result (IsPrime (value_of m) → (num den : List ℕ) →
+        IsAgreeing (value_of m) (length points.now) (slice_index points.now) (slice_index values.now) a b num den → ⊥) }
+{
+    match thiele_up_to(m, points, values, a, b, levels, work) {
+        Some(lengths) => Some(lengths),
+        None => least_by_remainders(m, points, values, a, b, work),
+    }
+}
+
+/// The same by Euclid's remainders alone.
+fn least_by_remainders(
     m: Modulus,
     points: &[u64],
     values: &[u64],
@@ -141,7 +201,13 @@ fn pair_of(
 
 /// Scales a numerator and a denominator of `terms` coefficients by `inverse`, that of the denominator's last, and writes
 /// the denominator to the places after the numerator. Answers the number of the numerator's coefficients.
-fn write_pair(m: Modulus, rest: &mut [u64], factor: &mut [u64], terms: usize, inverse: u64) -> usize
+pub(crate) fn write_pair(
+    m: Modulus,
+    rest: &mut [u64],
+    factor: &mut [u64],
+    terms: usize,
+    inverse: u64,
+) -> usize
     requires some { 0 < terms }
     requires rest_room { terms ≤ length rest.old }
     requires factor_room { terms ≤ length factor.old }

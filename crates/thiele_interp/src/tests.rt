@@ -2,7 +2,9 @@ ghost use Rattle.std.specs.Prelude.{◌≡◌, ◌+◌, ◌<◌, EachIndex, leng
 ghost use Rattle.prime_field.specs.Modulus.{value_of};
 ghost use Rattle.univariate.specs.Coefficients.{AreResidues};
 
-use super::{NoMemory, UniPair, least_pair, least_pair_over};
+use super::{
+    NoMemory, UniPair, least_pair, least_pair_over, least_pair_up_to, thiele_over, thiele_up_to,
+};
 use prime_field::Modulus;
 use std::alloc::Global;
 
@@ -100,4 +102,44 @@ fn the_highest_degrees(rt: HostRuntime) -> Result<(), NoMemory> {
         assert!(rt; pair.den.first() == Some(&1) && pair.den.last() == Some(&1));
     }
     Ok(())
+}
+
+#[test]
+fn thiele_closes(rt: HostRuntime) {
+    // 1 / (t + 1) at 1, 2, 3, 4
+    let m = Modulus::first();
+    let points = [1, 2, 3, 4];
+    let values = [
+        1152921504606846976,
+        1537228672809129301,
+        576460752303423488,
+        1844674407370955161,
+    ];
+    let mut work = [17; 72];
+    let found = thiele_over(m, &points, &values, 1, 1, &mut work);
+    assert_eq!(rt; found, Some((1, 2)));
+    assert_eq!(rt; (work[0], work[1], work[2]), (1, 1, 1));
+
+    // it closes at the third level
+    assert_eq!(rt; thiele_up_to(m, &points, &values, 1, 1, 2, &mut work), None);
+    let found = least_pair_up_to(m, &points, &values, 1, 1, 2, &mut work);
+    assert_eq!(rt; found, Some((1, 2)));
+    assert_eq!(rt; (work[0], work[1], work[2]), (1, 1, 1));
+}
+
+#[test]
+fn thiele_gives_no_answer(rt: HostRuntime) {
+    let m = Modulus::second();
+    let points = [1, 2, 3];
+    let mut work = [17; 60];
+    // a divisor is 0
+    assert_eq!(rt; thiele_over(m, &points, &[1, 1, 2], 1, 1, &mut work), None);
+    // it closes with the denominator t - 1
+    assert_eq!(rt; thiele_over(m, &points, &[2, 1, 1], 1, 1, &mut work), None);
+    // it closes with the numerator t, of too high a degree
+    assert_eq!(rt; thiele_over(m, &points, &[1, 2, 3], 0, 1, &mut work), None);
+    assert_eq!(rt;
+        thiele_over(m, &points, &[1, 2, 3], 1, 1, &mut work),
+        Some((2, 1))
+    );
 }

@@ -2,7 +2,7 @@ use Rattle.std.proofs.Common.{length, slice_index}
 use Rattle.prime_field.specs.Modulus.{value_of}
 use Rattle.thiele_interp.specs.Pairs.{IsLeastPair, IsReducedPair}
 use Rattle.thiele_interp.proofs.Ends.{at_front}
-use Rattle.thiele_interp.proofs.least.least_pair_over.Goals as goal
+use Rattle.thiele_interp.proofs.least.least_by_remainders.Goals as goal
 
 pub returns-clause-reduced : goal.returns-clause-reduced
 returns-clause-reduced c =
