@@ -1,1 +1,5 @@
 pub mod Tables
+pub mod Sums
+pub mod Counts
+pub mod BoardSteps
+pub mod Turns

@@ -1,14 +1,16 @@
 //! What a job's main graph has at one point after another, in rows.
 //!
 //! [`sample`] evaluates the main graph at points and keeps a row for each: the values of its outputs, or the first node
-//! without a value.
+//! without a value. From a [`Board`] several threads may draw numbers of work, each number once.
 #![tactic(auto)]
 
+mod board;
 mod laws;
 mod samples;
 mod sampling;
 
-pub use laws::one_table;
+pub use board::{Board, BoardSeat};
+pub use laws::{draws_are_a_schedule, one_table};
 pub use samples::Samples;
 pub use sampling::sample;
 

@@ -1,4 +1,4 @@
-//! The rows of small files, from their text.
+//! The rows of small files, from their text; boards of few numbers.
 
 use super::*;
 use graph_eval::{Cause, Singular};
@@ -65,5 +65,38 @@ fn may_be_shared<T: Send + Sync>(_value: &T) {}
 #[test]
 fn rows_go_to_other_threads(rt: HostRuntime) -> Result<(), Fail> {
     may_be_shared(&rows_of(rt.alloc(), QUOTIENTS, Modulus::first())?);
+    Ok(())
+}
+
+fn crosses<T: Send>() {}
+
+fn is_shared<T: Send + Sync>() {}
+
+#[test]
+fn types_cross_threads() {
+    is_shared::<Board>();
+    crosses::<BoardSeat>();
+    is_shared::<Samples>();
+}
+
+#[test]
+fn seats_draw_the_numbers_in_turn(rt: HostRuntime) -> Result<(), Fail> {
+    let (board, mut first) = Board::new(rt.alloc(), 10)?;
+    assert_eq!(rt; board.draw(&mut first), 0);
+    let mut second = board.split(&mut first, 4)?;
+    assert_eq!(rt; board.draw(&mut second), 1);
+    assert_eq!(rt; board.draw(&mut first), 2);
+    board.merge(&mut first, second);
+    // 7 of the 10 numbers are left, and no more
+    let rest = board.split(&mut first, 7)?;
+    board.merge(&mut first, rest);
+    assert_eq!(rt; board.close(first), 3);
+    Ok(())
+}
+
+#[test]
+fn an_empty_board_closes_at_once(rt: HostRuntime) -> Result<(), Fail> {
+    let (board, seat) = Board::new(rt.alloc(), 0)?;
+    assert_eq!(rt; board.close(seat), 0);
     Ok(())
 }
