@@ -14,6 +14,14 @@ use Rattle.sparse_solver.specs.Packed.{IsOutside, IsRowAt, packed_sum, row_sum, 
 pub sum-more : (n : ℕ) (f : ℕ → ℕ) → sum_to (n + 1) f ≡ sum_to n f + f n
 sum-more n f = ap (λ k. sum_to k f) (add-one n)
 
+-- two more terms were added to a residue
+pub summed_two : (m n before now : ℕ) (f : ℕ → ℕ) → now ≡ (before + (f n + f (n + 1))) % m → before % m ≡ sum_to n f % m → now % m ≡ sum_to (n + 2) f % m
+summed_two m n before now f is so_far =
+    let last : sum_to (n + 2) f ≡ sum_to (n + 1) f + f (n + 1) = ap (λ k. sum_to k f) (omega arith) ∙ sum-more (n + 1) f in
+    ap (λ t. t % m) is ∙ mod-mod (before + (f n + f (n + 1))) m ∙
+    add-cong m before (sum_to n f) (f n + f (n + 1)) (f n + f (n + 1)) so_far refl ∙
+    ap (λ t. t % m) (omega (arith, last, sum-more n f))
+
 -- the row at hand with another word in one column
 pub row_sum-set : (row : List ℕ) (k x : ℕ) (w : ℕ → ℕ) → k < length row → row_sum (set row k x) w + get_or row k 0 * w k ≡ row_sum row w + x * w k
 row_sum-set row k x w low =

@@ -40,6 +40,26 @@ pub fn add_product(m: Modulus, word: u64, factor: u64, value: u64) -> u64
     m.reduce_u128(word as u128 + factor as u128 * value as u128)
 }
 
+/// What the sum of a word and two products leaves, which is folded once.
+fn add_two_products(
+    m: Modulus,
+    word: u64,
+    factor: u64,
+    residue: u64,
+    next_factor: u64,
+    next_residue: u64,
+) -> u64
+    requires residue { residue < value_of m }
+    requires next { next_residue < value_of m }
+    ensures sum { result ≡ (word + (factor * residue + next_factor * next_residue)) % value_of m }
+    ensures residue { result < value_of m }
+{
+    m.reduce_u128(
+        word as u128
+            + (factor as u128 * residue as u128 + next_factor as u128 * next_residue as u128),
+    )
+}
+
 /// Adds `factor` times the packed row to the row at hand.
 pub fn add_packed(m: Modulus, row: &mut [u64], columns: &[u32], values: &[u64], factor: u64)
     requires lengths { length values.now ≡ length columns.now }
@@ -85,16 +105,30 @@ pub fn is_zero_in(row: &[u64], columns: &[u32]) -> bool
     true
 }
 
-/// What the sum of the packed row at a vector leaves.
+/// What the sum of the packed row at a vector of residues leaves. Two products at a time are folded.
 pub fn sum_packed(m: Modulus, columns: &[u32], values: &[u64], vector: &[u64]) -> u64
     requires lengths { length values.now ≡ length columns.now }
     requires columns { AreColumns (length vector.now) columns.now }
+    requires residues { (k : ℕ) → k < length vector.now → slice_index vector.now k < value_of m }
     ensures sum { result % value_of m ≡ packed_sum columns.now values.now (slice_index vector.now) % value_of m }
     ensures residue { result < value_of m }
 {
+    let count = columns.len();
     let mut sum = 0;
-    for (i, column) in columns.iter().enumerate() {
-        sum = add_product(m, sum, values[i], vector[*column as usize]);
+    for pair in 0..count / 2 {
+        let i = 2 * pair;
+        sum = add_two_products(
+            m,
+            sum,
+            values[i],
+            vector[columns[i] as usize],
+            values[i + 1],
+            vector[columns[i + 1] as usize],
+        );
+    }
+    if count % 2 == 1 {
+        let last = count - 1;
+        sum = add_product(m, sum, values[last], vector[columns[last] as usize]);
     }
     sum
 }

@@ -42,6 +42,7 @@ fn led_value(
     requires kept_room { length kept.now ≡ length steps.now.columns.items }
     requires inverses_room { length inverses.now ≡ kept_in steps.now }
     requires room { length vector.now ≡ unknowns + 1 }
+    requires residues { (k : ℕ) → k < unknowns + 1 → slice_index vector.now k < value_of m }
     ensures residue { result < value_of m }
 {
     let columns = kept_columns(unknowns, steps, turn);
@@ -91,6 +92,7 @@ fn test_rows(
     requires starts { AreStarts rows.now starts.now }
     requires entries { length values.now ≡ entries_of rows.now }
     requires room { length vector.now ≡ unknowns + 1 }
+    requires residues { (k : ℕ) → k < unknowns + 1 → slice_index vector.now k < value_of m }
     ensures { OnTrue result (RowsVanish (value_of m) rows.now starts.now values.now (slice_index vector.now)) }
 {
     for number in 0..rows.len() {
