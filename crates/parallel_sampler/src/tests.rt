@@ -60,14 +60,6 @@ fn a_file_without_points_has_no_rows(rt: HostRuntime) -> Result<(), Fail> {
     Ok(())
 }
 
-fn may_be_shared<T: Send + Sync>(_value: &T) {}
-
-#[test]
-fn rows_go_to_other_threads(rt: HostRuntime) -> Result<(), Fail> {
-    may_be_shared(&rows_of(rt.alloc(), QUOTIENTS, Modulus::first())?);
-    Ok(())
-}
-
 fn crosses<T: Send>() {}
 
 fn is_shared<T: Send + Sync>() {}
