@@ -2,7 +2,7 @@
 use Rattle.std.specs.Prelude.{◌≡◌, ℕ, ◌+◌, ◌-◌, ◌*◌, ◌≤◌, ◌==◌, nat_le, Bool, true, false, ◌&&◌, if◌then◌else◌, List, [], ◌∷◌, length, slice_index, sum, All, Option, Some, None}
 use Rattle.std.specs.List.{list_all}
 use Rattle.basic_nodes.specs.declared.lengths.NodeShape.{NodeShape}
-use Rattle.basic_nodes.specs.declared.lengths.NodeShape.TheVariants.{Eval, Take, Slice, Chain, Sum, Product, Matmul, Solver}
+use Rattle.basic_nodes.specs.declared.lengths.NodeShape.TheVariants.{Eval, Take, Slice, Chain, Sum, Product, Matmul, Solver, Call, Map}
 
 -- a position is from 1 to 262144
 abbrev pub IsPosition : ℕ → Type 0
@@ -27,6 +27,8 @@ IsShape Sum = Unit {0}
 IsShape Product = Unit {0}
 IsShape (Matmul rows mid cols) = IsMatmul rows mid cols
 IsShape (Solver entries wanted independent) = independent ≤ 4096
+IsShape (Call inputs outputs) = inputs ≤ 262144
+IsShape (Map inputs outputs) = Unit {0}
 
 -- a node of this kind names this many lists
 abbrev pub HasLists : NodeShape → ℕ → Type 0
@@ -38,6 +40,8 @@ HasLists Sum lists = 1 ≤ lists
 HasLists Product lists = 1 ≤ lists
 HasLists (Matmul rows mid cols) lists = lists ≡ 2
 HasLists (Solver entries wanted independent) lists = lists ≡ 1
+HasLists (Call inputs outputs) lists = Unit {0}
+HasLists (Map inputs outputs) lists = Unit {0}
 
 -- the node's own length, if the rule of its kind holds and the length is at most 262144
 abbrev pub ruled : Bool → ℕ → Option ℕ
@@ -53,6 +57,10 @@ are_within (position ∷ positions) (n ∷ lengths) = nat_le position n && are_w
 abbrev pub are_equal : List ℕ → Bool
 are_equal lengths = list_all (λ n. n == slice_index lengths 0) lengths
 
+-- whether each length is this one
+abbrev pub are_all : ℕ → List ℕ → Bool
+are_all one lengths = list_all (λ n. n == one) lengths
+
 -- the length of the node's list from the lengths of the lists that it names, or None where these do not fit the node
 abbrev pub length_rule : NodeShape → List ℕ → Option ℕ
 length_rule (Eval count greatest) lengths = ruled (nat_le greatest (slice_index lengths 0)) count
@@ -64,3 +72,5 @@ length_rule Product lengths = ruled (are_equal lengths) (slice_index lengths 0)
 length_rule (Matmul rows mid cols) lengths =
     ruled (slice_index lengths 0 == rows * mid && slice_index lengths 1 == mid * cols) (rows * cols)
 length_rule (Solver entries wanted independent) lengths = ruled (slice_index lengths 0 == entries) (wanted * (independent + 1))
+length_rule (Call inputs outputs) lengths = ruled (sum lengths == inputs) outputs
+length_rule (Map inputs outputs) lengths = ruled (are_all inputs lengths) (length lengths * outputs)

@@ -1,7 +1,7 @@
 //! How long a node's list is, and the rules on the lengths of the lists that it names.
 
 ghost use Rattle.std.specs.Prelude.{◌≡◌, ◌≤◌, ◌<◌, All, IfOk, OnErr, true, length, sum};
-ghost use Rattle.basic_nodes.specs.Lengths.{IsShape, HasLists, length_rule, ruled, are_within, are_equal};
+ghost use Rattle.basic_nodes.specs.Lengths.{IsShape, HasLists, length_rule, ruled, are_all, are_within, are_equal};
 
 use sqlite_items::Items;
 use thiserror::Error;
@@ -47,6 +47,16 @@ pub enum NodeShape {
         wanted: usize,
         independent: usize,
     },
+    /// The output, of so many entries, of a graph with so many inputs, on the lists one after the other.
+    Call {
+        inputs: usize,
+        outputs: usize,
+    },
+    /// The outputs, of so many entries each, of a graph with so many inputs on each of the lists, one after the other.
+    Map {
+        inputs: usize,
+        outputs: usize,
+    },
 }
 
 /// The most entries that the list of a node may have.
@@ -87,6 +97,14 @@ pub fn length_of(kind: &NodeShape, lengths: &[usize]) -> Result<usize, LengthErr
             let own = wanted.checked_mul(*independent + 1).ok_or(LengthError)?;
             ruled(lengths[0] == *entries, own)
         }
+        NodeShape::Call { inputs, outputs } => {
+            let total = total_of(lengths)?;
+            ruled(total == *inputs, *outputs)
+        }
+        NodeShape::Map { inputs, outputs } => {
+            let own = lengths.len().checked_mul(*outputs).ok_or(LengthError)?;
+            ruled(are_all(*inputs, lengths), own)
+        }
     }
 }
 
@@ -123,6 +141,13 @@ fn are_equal(lengths: &[usize]) -> bool
 {
     let first = lengths[0];
     lengths.iter().all(|length| *length == first)
+}
+
+/// Whether each length is this one.
+fn are_all(one: usize, lengths: &[usize]) -> bool
+    ensures { result ≡ are_all one lengths.now }
+{
+    lengths.iter().all(|length| *length == one)
 }
 
 /// The sum of the lengths, where it is within the limit.

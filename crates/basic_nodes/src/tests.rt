@@ -99,5 +99,19 @@ fn lengths_follow_the_rules(rt: HostRuntime) -> Result<(), Fail> {
     };
     assert_eq!(rt; length_of(&kind, &[12]), Ok(8));
     assert_eq!(rt; length_of(&kind, &[11]), Err(LengthError));
+
+    let kind = NodeShape::Call {
+        inputs: 3,
+        outputs: 7,
+    };
+    assert_eq!(rt; length_of(&kind, &[1, 2]), Ok(7));
+    assert_eq!(rt; length_of(&kind, &[3, 3]), Err(LengthError));
+
+    let kind = NodeShape::Map {
+        inputs: 3,
+        outputs: 7,
+    };
+    assert_eq!(rt; length_of(&kind, &[3, 3]), Ok(14));
+    assert_eq!(rt; length_of(&kind, &[1, 2]), Err(LengthError));
     Ok(())
 }

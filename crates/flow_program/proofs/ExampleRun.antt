@@ -59,7 +59,7 @@ above_one Second = lit< tt
 abbrev entry : GraphLearned
 entry = record { point = None; output = 1; lengths = []; sets = []; plans = [] }
 
-fits : FitsGraph example_graph entry
+fits : FitsGraph [] example_graph entry
 fits = record {
   many = refl;
   sets = λ n node there. cc;

@@ -1,7 +1,7 @@
 //! The lines of graphs that were learned.
 
 ghost use Rattle.std.specs.Prelude.{◌≡◌, ◌++◌, length, IfOk, OnOk};
-ghost use Rattle.graph_eval.specs.Learned.{Fits, FitsGraph};
+ghost use Rattle.graph_eval.specs.Learned.{Fits};
 ghost use Rattle.flow_program.specs.Lessons as spec;
 ghost use Rattle.flow_program.specs.Lessons.{further, graph_line, graph_lines, node_line, node_lines};
 
@@ -75,7 +75,7 @@ fn push_nodes(text: &mut Vec<u8>, nodes: &[Node], sets: &[Items<u32>]) -> Result
 
 /// Writes what was learned of a graph behind the text.
 fn push_lesson(text: &mut Vec<u8>, graph: &Graph, entry: &GraphLearned) -> Result<(), AllocError>
-    requires { FitsGraph graph.now entry.now }
+    requires { length entry.now.sets ≡ length graph.now.nodes }
     ensures { OnOk result (text.new.items ≡ text.old.items ++ graph_lines graph.now entry.now) }
 {
     push_graph(text, graph, entry)?;

@@ -1,14 +1,16 @@
 -- What was learned of a file's graphs, one graph after the other.
-use Rattle.std.proofs.Common.{◌≡◌, ℕ, zero, suc, ◌+◌, ◌<◌, List, [], ◌∷◌, ◌++◌, length, Option, Some, None, refl, sym, ◌∙◌, ap, subst, length-append, arith, inl, inr}
+use Rattle.std.proofs.Common.{◌≡◌, ℕ, zero, suc, ◌+◌, ◌<◌, List, [], ◌∷◌, ◌++◌, length, take, Option, Some, None, refl, sym, ◌∙◌, ap, subst, length-append, arith, inl, inr}
 use Rattle.std.specs.Prelude.{slice_get}
 use Rattle.std.proofs.lemmas.Bool.{cases_eq}
 use Rattle.std.proofs.lemmas.Option.{slice_get_within}
+use Rattle.std.proofs.lemmas.List.{take-append-le}
+use Rattle.std.proofs.Math.Seq.{take-append_seam}
 use Rattle.graph_file.specs.declared.graph.Graph.{Graph}
 use Rattle.graph_file.specs.Sound.{IsJob}
 use Rattle.graph_eval.specs.Evaluated.{HasInputs}
 use Rattle.graph_eval.specs.GraphValue.{main_number}
 use Rattle.graph_eval.specs.declared.learned.GraphLearned.{GraphLearned}
-use Rattle.graph_eval.specs.Learned.{FitsFirst, FitsGraph}
+use Rattle.graph_eval.specs.Learned.{FitsFirst, FitsGraph, sizes_of}
 use Rattle.graph_eval.proofs.Places.{stands}
 
 -- nothing is learned yet
@@ -26,7 +28,7 @@ at_end [] added x at = cc
 at_end (y ∷ xs) added x at = at_end xs added x at
 
 -- what was learned of the next graph joins the rest
-pub FitsFirst-more : (graphs : List Graph) (learned more : List GraphLearned) (count : ℕ) (graph : Graph) (added : GraphLearned) → FitsFirst graphs learned count → slice_get graphs count ≡ Some graph → FitsGraph graph added
+pub FitsFirst-more : (graphs : List Graph) (learned more : List GraphLearned) (count : ℕ) (graph : Graph) (added : GraphLearned) → FitsFirst graphs learned count → slice_get graphs count ≡ Some graph → FitsGraph (sizes_of graphs learned) graph added
     → more ≡ learned ++ added ∷ [] → FitsFirst graphs more (count + 1)
 FitsFirst-more graphs learned more count graph added fits is new joined = record {
   many = ap length joined ∙ length-append learned (added ∷ []) ∙ ap (λ n. n + 1) fits.many;
@@ -37,11 +39,14 @@ FitsFirst-more graphs learned more count graph added fits is new joined = record
             let entry_is : added ≡ entry = at_end learned added entry (ap (slice_get (learned ++ added ∷ [])) (sym e) ∙ there) in
             let both : Some graph ≡ Some other = sym is ∙ ap (slice_get graphs) (sym (e ∙ fits.many)) ∙ at in
             let graph_is : graph ≡ other = cc in
-            subst (λ (g : Graph). FitsGraph g entry) graph_is (subst (FitsGraph graph) entry_is new)
+            let before : take k more ≡ learned = ap (take k) joined ∙ ap (λ n. take n (learned ++ added ∷ [])) e ∙ take-append_seam learned (added ∷ []) in
+            subst (λ (ls : List GraphLearned). FitsGraph (sizes_of graphs ls) other entry) (sym before)
+            (subst (λ (g : Graph). FitsGraph (sizes_of graphs learned) g entry) graph_is (subst (FitsGraph (sizes_of graphs learned) graph) entry_is new))
         | inr ne ↦
             let within : k < length (learned ++ added ∷ []) = slice_get_within (learned ++ added ∷ []) k entry there in
             let below : k < length learned = omega (arith, length-append learned (added ∷ [])) in
-            fits.each k other entry at (before_end learned added entry k below there)
+            let before : take k more ≡ take k learned = ap (take k) joined ∙ take-append-le k learned (added ∷ []) (omega arith) in
+            subst (λ (ls : List GraphLearned). FitsGraph (sizes_of graphs ls) other entry) (sym before) (fits.each k other entry at (before_end learned added entry k below there))
       ];
 }
 

@@ -1,16 +1,21 @@
+mod Calling
 pub mod EvaluationLaws
 pub mod Fitting
 mod FreshLaws
 mod Gathered
 pub mod LengthLaws
 mod Listed
+pub mod Mapped
+pub mod Meanings
 pub mod OneFresh
 pub mod OneLength
 pub mod OneValue
 mod OwnLaws
 pub mod Places
+mod Remembered
 mod Room
 mod ShapeLaws
+pub mod Sizes
 mod SparseLaws
 mod Standing
 pub mod SystemLaws

@@ -20,6 +20,7 @@ use Rattle.graph_eval.specs.GraphValue.{named}
 use Rattle.graph_eval.specs.Learned.{HasOwnLength, joined_length, kind_length, listed_length, named_length, node_length, shape_of}
 use Rattle.graph_eval.specs.Reading.{AreListed, HasPlaces, IsThere, placed, places_of, start_of, stop_of}
 use Rattle.graph_eval.proofs.ShapeLaws.{All-from_get}
+use Rattle.graph_eval.specs.declared.shapes.GraphSize.{GraphSize}
 
 -- a table begins with the number of inputs, and has one place more than there are lists
 pub first_place : (inputs : ℕ) (lengths : List ℕ) → slice_index (places_of inputs lengths) 0 ≡ inputs
@@ -128,19 +129,19 @@ module _ (words : List ℕ) where
     pub room_is : (from : Source) → named_length inputs lengths from ≡ length (placed words (places_of inputs lengths) from)
     room_is from = room_of from ∙ ap (λ (list : Source → List ℕ). length (list from)) (sym placed_named)
 
-    pub rooms_are : (set : List ℕ) (kind : NodeKind) → kind_length inputs lengths set kind ≡ listed_length (placed words (places_of inputs lengths)) set kind
-    rooms_are set kind = ap (λ (room : Source → ℕ). length_rule (shape_of set kind) (map room (sources_of kind))) (fun_ext room_is)
+    pub rooms_are : (sizes : List GraphSize) (set : List ℕ) (kind : NodeKind) → kind_length sizes inputs lengths set kind ≡ listed_length sizes (placed words (places_of inputs lengths)) set kind
+    rooms_are sizes set kind = ap (λ (room : Source → ℕ). length_rule (shape_of sizes set kind) (map room (sources_of kind))) (fun_ext room_is)
 
     -- a node has its own length by the rule on the lists
-    pub own_length : (set : List ℕ) (node : Node) (own : ℕ) → node_length inputs lengths set node ≡ Some own → HasOwnLength (placed words (places_of inputs lengths)) set node own
-    own_length set node own has = when node.needed has
+    pub own_length : (sizes : List GraphSize) (set : List ℕ) (node : Node) (own : ℕ) → node_length sizes inputs lengths set node ≡ Some own → HasOwnLength sizes (placed words (places_of inputs lengths)) set node own
+    own_length sizes set node own has = when node.needed has
       where
         some : (o : Option ℕ) → option_and_then (joined_length lengths) o ≡ Some own → o ≡ Some own
         some None none = let never : None ≡ Some own = none in cc
         some (Some n) has = joined lengths own n has
 
-        when : (needed : Bool) → (if needed then option_and_then (joined_length lengths) (kind_length inputs lengths set node.kind) else Some 0) ≡ Some own → MatchBool needed (listed_length (placed words (places_of inputs lengths)) set node.kind ≡ Some own) (own ≡ 0)
-        when true has = sym (rooms_are set node.kind) ∙ some (kind_length inputs lengths set node.kind) has
+        when : (needed : Bool) → (if needed then option_and_then (joined_length lengths) (kind_length sizes inputs lengths set node.kind) else Some 0) ≡ Some own → MatchBool needed (listed_length sizes (placed words (places_of inputs lengths)) set node.kind ≡ Some own) (own ≡ 0)
+        when true has = sym (rooms_are sizes set node.kind) ∙ some (kind_length sizes inputs lengths set node.kind) has
         when false has = let same : Some 0 ≡ Some own = has in cc
 
 -- the same with a table that is read
@@ -155,8 +156,8 @@ module _ (words table : List ℕ) (inputs : ℕ) (lengths : List ℕ) (listed : 
   pub table_there : (kind : NodeKind) → IsKind inputs (length lengths) kind → All (IsThere words table) (sources_of kind)
   table_there kind sound = subst (λ (ps : List ℕ). All (IsThere words ps) (sources_of kind)) (sym table_is) (sources_there words inputs lengths listed inputs kind sound)
 
-  pub table_room : (set : List ℕ) (node : Node) (own : ℕ) → node_length inputs lengths set node ≡ Some own → HasOwnLength (placed words table) set node own
-  table_room set node own has = subst (λ (ps : List ℕ). HasOwnLength (placed words ps) set node own) (sym table_is) (own_length words inputs lengths listed set node own has)
+  pub table_room : (sizes : List GraphSize) (set : List ℕ) (node : Node) (own : ℕ) → node_length sizes inputs lengths set node ≡ Some own → HasOwnLength sizes (placed words table) set node own
+  table_room sizes set node own has = subst (λ (ps : List ℕ). HasOwnLength sizes (placed words ps) set node own) (sym table_is) (own_length words inputs lengths listed sizes set node own has)
 
 -- what stands in the words has places, which are in order and within the words
 pub run_placed : (words places : List ℕ) (from : Source) → IsThere words places from → HasPlaces places from

@@ -74,8 +74,8 @@ pub sparse_plan : (m : ℕ) (words places : List ℕ) (node : Node) (own : NodeL
 sparse_plan m words places node own from unknowns want rows large needed is made none = record {
   planned = λ yes. made yes ∙ sym (plan_at node (Sparse from unknowns want rows) needed is own.set);
   needed = λ no. needed;
-  fails = λ no count has prime.
-      let whole = sparse_entries words places own.set from unknowns want rows count (ap (listed_length (placed words places) own.set) (sym is) ∙ has) in
+  fails = λ no sizes count has prime.
+      let whole = sparse_entries sizes words places own.set from unknowns want rows count (ap (listed_length sizes (placed words places) own.set) (sym is) ∙ has) in
       subst (λ (kind : NodeKind). IsTrue node.needed × KindFails m no_graphs own.set (placed words places) kind System) (sym is)
       (needed, (λ has_value. none no whole prime (value_solvable m unknowns (rows_with unknowns rows (placed words places from)) own.set large has_value), refl));
 }

@@ -31,6 +31,7 @@ use Rattle.graph_eval.specs.declared.outcome.Cause.TheVariants.{Division}
 use Rattle.graph_eval.specs.Learned.{greatest_among, listed_length}
 use Rattle.graph_eval.specs.Reading.{HasLength, IsEntry, IsThere, placed}
 use Rattle.graph_eval.specs.Systems.{AreEnough, AreEnoughFor, greatest_work, words_of, work_of}
+use Rattle.graph_eval.specs.declared.shapes.GraphSize.{GraphSize}
 
 -- no expression uses a position past the greatest
 greatest_each : (exprs : List Expr) (bound : ℕ) → greatest_among exprs ≤ bound → All (λ expr. greatest expr ≤ bound) exprs
@@ -74,11 +75,11 @@ rooms_are : (list : Source → List ℕ) (parts : List Source) → map (λ from.
 rooms_are list [] = refl
 rooms_are list (from ∷ parts) = ap (λ ns. length (list from) ∷ ns) (rooms_are list parts)
 
-module _ (words places set : List ℕ) where
+module _ (sizes : List GraphSize) (words places set : List ℕ) where
   abbrev room : Source → ℕ
   room from = length (placed words places from)
 
-  module _ (from : Source) (exprs : List Expr) (own : ℕ) (has : listed_length (placed words places) set (Eval from exprs) ≡ Some own) where
+  module _ (from : Source) (exprs : List Expr) (own : ℕ) (has : listed_length sizes (placed words places) set (Eval from exprs) ≡ Some own) where
     pub eval_room : length exprs ≡ own
     eval_room = (ruled_some (nat_le (greatest_among exprs) (room from)) (length exprs) own has).1
 
@@ -87,7 +88,7 @@ module _ (words places set : List ℕ) where
         let within : greatest_among exprs ≤ room from = leb-true _ _ (ruled_some (nat_le (greatest_among exprs) (room from)) (length exprs) own has).0 in
         greatest_each exprs (length (placed words places from)) (omega arith)
 
-  module _ (parts : List (Source × ℕ)) (own : ℕ) (has : listed_length (placed words places) set (Take parts) ≡ Some own) where
+  module _ (parts : List (Source × ℕ)) (own : ℕ) (has : listed_length sizes (placed words places) set (Take parts) ≡ Some own) where
     pub take_room : length parts ≡ own
     take_room = sym (length-map parts (λ part. part.1)) ∙ (ruled_some (are_within (map (λ part. part.1) parts) (map room (map (λ part. part.0) parts))) (length (map (λ part. part.1) parts)) own has).1
 
@@ -108,7 +109,7 @@ module _ (words places set : List ℕ) where
           last = omega (arith, within, mine, theirs);
         })
 
-  module _ (from : Source) (first last own : ℕ) (has : listed_length (placed words places) set (Slice from first last) ≡ Some own) where
+  module _ (from : Source) (first last own : ℕ) (has : listed_length sizes (placed words places) set (Slice from first last) ≡ Some own) where
     pub slice_room : last + 1 - first ≡ own
     slice_room = (ruled_some (nat_le last (room from)) (last + 1 - first) own has).1
 
@@ -117,7 +118,7 @@ module _ (words places set : List ℕ) where
         let within : last ≤ room from = leb-true _ _ (ruled_some (nat_le last (room from)) (last + 1 - first) own has).0 in
         omega arith
 
-  pub chain_room : (parts : List Source) (own : ℕ) → listed_length (placed words places) set (Chain parts) ≡ Some own → own ≡ length (chained (map (placed words places) parts))
+  pub chain_room : (parts : List Source) (own : ℕ) → listed_length sizes (placed words places) set (Chain parts) ≡ Some own → own ≡ length (chained (map (placed words places) parts))
   chain_room parts own has =
       sym (ruled_some true (sum (map room parts)) own has).1
       ∙ ap sum (rooms_are (placed words places) parts)
@@ -130,13 +131,13 @@ module _ (words places set : List ℕ) where
       let at : get_or (map room parts) i 0 ≡ room (get_or parts i source.Input) = get_or-map room parts i source.Input 0 below in
       sym at ∙ same ∙ is)
 
-  pub sum_same : (parts : List Source) (own : ℕ) → listed_length (placed words places) set (Sum parts) ≡ Some own → All (HasLength words places own) parts
+  pub sum_same : (parts : List Source) (own : ℕ) → listed_length sizes (placed words places) set (Sum parts) ≡ Some own → All (HasLength words places own) parts
   sum_same parts own has = let rule = ruled_some (are_equal (map room parts)) (get_or (map room parts) 0 0) own has in same_room parts own rule.0 rule.1
 
-  pub product_same : (parts : List Source) (own : ℕ) → listed_length (placed words places) set (Product parts) ≡ Some own → All (HasLength words places own) parts
+  pub product_same : (parts : List Source) (own : ℕ) → listed_length sizes (placed words places) set (Product parts) ≡ Some own → All (HasLength words places own) parts
   product_same parts own has = let rule = ruled_some (are_equal (map room parts)) (get_or (map room parts) 0 0) own has in same_room parts own rule.0 rule.1
 
-  module _ (left right : Source) (rows mid cols own : ℕ) (has : listed_length (placed words places) set (Matmul left right rows mid cols) ≡ Some own) where
+  module _ (left right : Source) (rows mid cols own : ℕ) (has : listed_length sizes (placed words places) set (Matmul left right rows mid cols) ≡ Some own) where
     fits : ((room left == rows * mid) ≡ true) × ((room right == mid * cols) ≡ true)
     fits = both_true (room left == rows * mid) (room right == mid * cols) (ruled_some (room left == rows * mid && room right == mid * cols) (rows * cols) own has).0
 
@@ -149,14 +150,14 @@ module _ (words places set : List ℕ) where
     pub matmul_right : length (placed words places right) ≡ mid * cols
     matmul_right = eqb-true (room right) (mid * cols) fits.1
 
-  module _ (from : Source) (rows unknowns : ℕ) (want : List ℕ) (own : ℕ) (has : listed_length (placed words places) set (Dense from rows unknowns want) ≡ Some own) where
+  module _ (from : Source) (rows unknowns : ℕ) (want : List ℕ) (own : ℕ) (has : listed_length sizes (placed words places) set (Dense from rows unknowns want) ≡ Some own) where
     pub dense_room : own ≡ length want * (length set + 1)
     dense_room = sym (ruled_some (room from == rows * (unknowns + 1)) (length want * (length set + 1)) own has).1
 
     pub dense_entries : length (placed words places from) ≡ rows * (unknowns + 1)
     dense_entries = eqb-true (room from) (rows * (unknowns + 1)) (ruled_some (room from == rows * (unknowns + 1)) (length want * (length set + 1)) own has).0
 
-  module _ (from : Source) (unknowns : ℕ) (want : List ℕ) (rows : List SparseRow) (own : ℕ) (has : listed_length (placed words places) set (Sparse from unknowns want rows) ≡ Some own) where
+  module _ (from : Source) (unknowns : ℕ) (want : List ℕ) (rows : List SparseRow) (own : ℕ) (has : listed_length sizes (placed words places) set (Sparse from unknowns want rows) ≡ Some own) where
     pub sparse_room : own ≡ length want * (length set + 1)
     sparse_room = sym (ruled_some (room from == entries_of rows) (length want * (length set + 1)) own has).1
 

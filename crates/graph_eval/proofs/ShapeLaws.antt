@@ -16,6 +16,7 @@ use Rattle.graph_file.specs.declared.graph.Source.{Source}
 use Rattle.graph_file.specs.declared.graph.Source.TheVariants as source
 use Rattle.graph_eval.specs.Learned.{IsKindSet, IsSetFor, shape_of, named_length}
 use Rattle.graph_eval.specs.Systems.{HasFewEntries, HasFewUnknowns}
+use Rattle.graph_eval.specs.declared.shapes.GraphSize.{GraphSize}
 
 -- what holds of what stands at each place holds of all
 pub All-from_get : {X : Type 0} (P : X → Type 0) (xs : List X) → ((k : ℕ) (x : X) → slice_get xs k ≡ Some x → P x) → All P xs
@@ -55,35 +56,35 @@ pub empty_set_for : (node : Node) → IsSetFor node []
 empty_set_for node = set_when node.needed node.kind
 
 -- the numbers of a sound node are in their ranges
-pub shape_sound : (variables number : ℕ) (set : List ℕ) (kind : NodeKind) → IsKind variables number kind → IsKindSet kind set → IsShape (shape_of set kind)
-shape_sound variables number set (Eval from exprs) is learned = tt
-shape_sound variables number set (Take parts) is learned =
+pub shape_sound : (variables number : ℕ) (sizes : List GraphSize) (set : List ℕ) (kind : NodeKind) → IsKind variables number kind → IsKindSet kind set → IsShape (shape_of sizes set kind)
+shape_sound variables number sizes set (Eval from exprs) is learned = tt
+shape_sound variables number sizes set (Take parts) is learned =
     All-map IsPosition (λ part. part.1) parts (All-from_get (λ part. IsPosition part.1) parts (λ k part at. let position = is.positions k part at in (position.first, position.last)))
-shape_sound variables number set (Slice from first last) is learned = (is.low, is.order, is.high)
-shape_sound variables number set (Chain parts) is learned = tt
-shape_sound variables number set (Sum parts) is learned = tt
-shape_sound variables number set (Product parts) is learned = tt
-shape_sound variables number set (Matmul left right rows mid cols) is learned =
+shape_sound variables number sizes set (Slice from first last) is learned = (is.low, is.order, is.high)
+shape_sound variables number sizes set (Chain parts) is learned = tt
+shape_sound variables number sizes set (Sum parts) is learned = tt
+shape_sound variables number sizes set (Product parts) is learned = tt
+shape_sound variables number sizes set (Matmul left right rows mid cols) is learned =
     let sides = is.sides in
     record { rows_low = sides.height.first; mid_low = sides.depth.first; cols_low = sides.width.first; left = sides.left; right = sides.right; result = sides.whole }
-shape_sound variables number set (Dense from rows unknowns want) is learned =
+shape_sound variables number sizes set (Dense from rows unknowns want) is learned =
     let small = set_small unknowns set learned.0 learned.1 in
     omega (arith, is.unknowns_high, small)
-shape_sound variables number set (Sparse from unknowns want rows) is learned =
+shape_sound variables number sizes set (Sparse from unknowns want rows) is learned =
     let small = set_small unknowns set learned.0 learned.1 in
     omega (arith, is.unknowns_high, small)
 
 -- a sound node names as many lists as its kind wants
-pub lists_sound : (variables number : ℕ) (set : List ℕ) (kind : NodeKind) → IsKind variables number kind → HasLists (shape_of set kind) (length (sources_of kind))
-lists_sound variables number set (Eval from exprs) is = refl
-lists_sound variables number set (Take parts) is = length-map parts (λ part. part.0) ∙ sym (length-map parts (λ part. part.1))
-lists_sound variables number set (Slice from first last) is = refl
-lists_sound variables number set (Chain parts) is = tt
-lists_sound variables number set (Sum parts) is = is.some
-lists_sound variables number set (Product parts) is = is.some
-lists_sound variables number set (Matmul left right rows mid cols) is = refl
-lists_sound variables number set (Dense from rows unknowns want) is = refl
-lists_sound variables number set (Sparse from unknowns want rows) is = refl
+pub lists_sound : (variables number : ℕ) (sizes : List GraphSize) (set : List ℕ) (kind : NodeKind) → IsKind variables number kind → HasLists (shape_of sizes set kind) (length (sources_of kind))
+lists_sound variables number sizes set (Eval from exprs) is = refl
+lists_sound variables number sizes set (Take parts) is = length-map parts (λ part. part.0) ∙ sym (length-map parts (λ part. part.1))
+lists_sound variables number sizes set (Slice from first last) is = refl
+lists_sound variables number sizes set (Chain parts) is = tt
+lists_sound variables number sizes set (Sum parts) is = is.some
+lists_sound variables number sizes set (Product parts) is = is.some
+lists_sound variables number sizes set (Matmul left right rows mid cols) is = refl
+lists_sound variables number sizes set (Dense from rows unknowns want) is = refl
+lists_sound variables number sizes set (Sparse from unknowns want rows) is = refl
 
 -- the lists that a sound node names are there
 pub sources_sound : (variables number : ℕ) (kind : NodeKind) → IsKind variables number kind → All (IsEarlier number) (sources_of kind)

@@ -27,10 +27,11 @@ use Rattle.graph_eval.specs.Systems.{greatest_work}
 use Rattle.graph_eval.proofs.EvaluationLaws.{FirstLists-none, ListsSoFar, alone, fails_alone, goes_on, graph_value, stops}
 use Rattle.graph_eval.proofs.Listed.{named_placed, room_is, source_there, sum_to, table_room, table_sound, table_there, take-places}
 use Rattle.graph_eval.proofs.Writing.{placed_residues}
+use Rattle.graph_eval.specs.declared.shapes.GraphSize.{GraphSize}
 
 -- what was learned of a graph fits each of its nodes
-pub fits_node : (graph : Graph) (learned : GraphLearned) (place : ℕ) (node : Node) → IsGraph graph → FitsGraph graph learned → slice_get graph.nodes place ≡ Some node → FitsNode (length graph.inputs) learned place node
-fits_node graph learned place node sound fits is =
+pub fits_node : (sizes : List GraphSize) (graph : Graph) (learned : GraphLearned) (place : ℕ) (node : Node) → IsGraph graph → FitsGraph sizes graph learned → slice_get graph.nodes place ≡ Some node → FitsNode sizes (length graph.inputs) learned place node
+fits_node sizes graph learned place node sound fits is =
     let below = slice_get_within graph.nodes place node is in
     record {
       sound = (sound.nodes place node is).kind;
@@ -43,7 +44,7 @@ fits_node graph learned place node sound fits is =
     }
 
 -- the node at this place reads the words above a place, and the first part of the table
-module _ (variables place : ℕ) (learned : GraphLearned) (node : Node) (above read places table : List ℕ) (fits : FitsNode variables learned place node) (places_are : places ≡ places_of variables learned.lengths) (listed : AreListed variables (take place learned.lengths) above) (read_is : read ≡ above) (table_is : table ≡ take (place + 1) places) where
+module _ (sizes : List GraphSize) (variables place : ℕ) (learned : GraphLearned) (node : Node) (above read places table : List ℕ) (fits : FitsNode sizes variables learned place node) (places_are : places ≡ places_of variables learned.lengths) (listed : AreListed variables (take place learned.lengths) above) (read_is : read ≡ above) (table_is : table ≡ take (place + 1) places) where
   here : length (take place learned.lengths) ≡ place
   here = let within = fits.many_lengths in length-take-le place learned.lengths (omega arith)
 
@@ -62,8 +63,8 @@ module _ (variables place : ℕ) (learned : GraphLearned) (node : Node) (above r
   pub pushed_there : All (IsThere read table) (sources_of node.kind)
   pushed_there = table_there read table variables (take place learned.lengths) listed_read cut node.kind sound_here
 
-  pub pushed_room : HasOwnLength (placed read table) (slice_index_or learned.sets place []) node (slice_index learned.lengths place)
-  pushed_room = table_room read table variables (take place learned.lengths) listed_read cut (slice_index_or learned.sets place []) node (slice_index learned.lengths place) fits.long
+  pub pushed_room : HasOwnLength sizes (placed read table) (slice_index_or learned.sets place []) node (slice_index learned.lengths place)
+  pushed_room = table_room read table variables (take place learned.lengths) listed_read cut sizes (slice_index_or learned.sets place []) node (slice_index learned.lengths place) fits.long
 
   pub pushed_same : placed read table ≡ placed above (take (place + 1) places)
   pushed_same = ap (λ ws. placed ws table) read_is ∙ ap (placed above) table_is
@@ -80,13 +81,13 @@ added_here m set list node own old new values (Ok done) needed gives low long ar
   long = long;
 }
 
-pub added_none : (m : ℕ) (set : List ℕ) (list : Source → List ℕ) (node : Node) (own : ℕ) (words : List ℕ) → node.needed ≡ false → HasOwnLength list set node own → IsAdded m no_graphs set list node own words words
-added_none m set list node own words left_out has = record {
+pub added_none : (m : ℕ) (sizes : List GraphSize) (set : List ℕ) (list : Source → List ℕ) (node : Node) (own : ℕ) (words : List ℕ) → node.needed ≡ false → HasOwnLength sizes list set node own → IsAdded m no_graphs set list node own words words
+added_none m sizes set list node own words left_out has = record {
   values = [];
   words = sym (append-nil words);
   gives = λ prime. subst (λ (b : Bool). MatchBool b (KindGives m no_graphs set list node.kind []) (◌≡◌ {A = List ℕ} [] [])) (sym left_out) refl;
   low = All-nil (λ x. x < m);
-  long = sym (subst (λ (b : Bool). MatchBool b (listed_length list set node.kind ≡ Some own) (own ≡ 0)) left_out has);
+  long = sym (subst (λ (b : Bool). MatchBool b (listed_length sizes list set node.kind ≡ Some own) (own ≡ 0)) left_out has);
 }
 
 pub failed_here : (m : ℕ) (set : List ℕ) (list : Source → List ℕ) (node : Node) (answer : Result (Unit {0}) Cause) → node.needed ≡ true → IfErr answer (λ cause. IsPrime m → KindFails m no_graphs set list node.kind cause) → IfErr answer (λ cause. IsPrime m → NodeFails m no_graphs set list node cause)
@@ -94,7 +95,7 @@ failed_here m set list node (Ok done) needed fails = tt
 failed_here m set list node (Err cause) needed fails = λ prime. (needed, fails prime)
 
 -- the first part of the table has the places of the lists so far
-pub cut_places : (variables place : ℕ) (learned : GraphLearned) (places : List ℕ) {node : Node} → places ≡ places_of variables learned.lengths → FitsNode variables learned place node → take (place + 1) places ≡ places_of variables (take place learned.lengths)
+pub cut_places : {sizes : List GraphSize} (variables place : ℕ) (learned : GraphLearned) (places : List ℕ) {node : Node} → places ≡ places_of variables learned.lengths → FitsNode sizes variables learned place node → take (place + 1) places ≡ places_of variables (take place learned.lengths)
 cut_places variables place learned places places_are fits = let within = fits.many_lengths in ap (take (place + 1)) places_are ∙ take-places variables learned.lengths place (omega arith)
 
 -- the lists of the first so many nodes stand above the inputs, and these above the words below
@@ -184,7 +185,7 @@ output_earlier graph count sound all = at graph.output refl
     at (source.Node k) is = omega (arith, sound.output k is)
 
 -- with every list, the output stands among the words
-module _ (graph : Graph) (learned : GraphLearned) (words places : List ℕ) (sound : IsGraph graph) (fits : FitsGraph graph learned) (listed : AreListed (length graph.inputs) learned.lengths words) (places_are : places ≡ places_of (length graph.inputs) learned.lengths) where
+module _ (sizes : List GraphSize) (graph : Graph) (learned : GraphLearned) (words places : List ℕ) (sound : IsGraph graph) (fits : FitsGraph sizes graph learned) (listed : AreListed (length graph.inputs) learned.lengths words) (places_are : places ≡ places_of (length graph.inputs) learned.lengths) where
   pub output_there : IsThere words places graph.output
   output_there = subst (λ (ps : List ℕ). IsThere words ps graph.output) (sym places_are) (source_there words (length graph.inputs) learned.lengths listed graph.output (output_earlier graph (length learned.lengths) sound fits.all))
 
@@ -205,7 +206,7 @@ module _ (m : ℕ) (graphs : List Graph) (learned : List GraphLearned) (number b
       let room = ready.room in
       omega arith
 
-  module _ (last : Board) (places : List ℕ) (count : ℕ) (sound : IsGraph graph) (fits : FitsGraph graph entry) (places_are : places ≡ places_of (length graph.inputs) entry.lengths)
+  module _ (sizes : List GraphSize) (last : Board) (places : List ℕ) (count : ℕ) (sound : IsGraph graph) (fits : FitsGraph sizes graph entry) (places_are : places ≡ places_of (length graph.inputs) entry.lengths)
       (stands : ListsStand m (meanings m graphs (sets_of learned) number) graph entry (take base old.words) (drop base old.words) last.words count) where
     -- the next node has room
     pub node_room : (node : Node) → slice_get graph.nodes count ≡ Some node → last.size ≡ old.size → length last.words + slice_index entry.lengths count ≤ last.size
@@ -224,7 +225,7 @@ module _ (m : ℕ) (graphs : List Graph) (learned : List GraphLearned) (number b
 
       -- the output is there
       pub output_stands : IsThere (drop base last.words) places graph.output
-      output_stands = output_there graph entry (drop base last.words) places sound fits listed_all places_are
+      output_stands = output_there sizes graph entry (drop base last.words) places sound fits listed_all places_are
 
       -- and moved down it replaces the inputs
       pub replaced : (new : Board) (start stop : ℕ) → start ≡ start_of places graph.output → stop ≡ stop_of places graph.output → new.words ≡ take base last.words ++ slice_range last.words (base + start) (base + stop) → IsReplaced m graphs learned number base old new
@@ -244,5 +245,5 @@ module _ (m : ℕ) (graphs : List Graph) (learned : List GraphLearned) (number b
             long = λ other other_is.
                 let both : Some entry ≡ Some other = sym entry_is ∙ other_is in
                 let same : entry ≡ other = cc in
-                ap length values_are ∙ output_long graph entry above places sound fits listed_all places_are ∙ ap (λ (e : GraphLearned). e.output) same;
+                ap length values_are ∙ output_long sizes graph entry above places sound fits listed_all places_are ∙ ap (λ (e : GraphLearned). e.output) same;
           }

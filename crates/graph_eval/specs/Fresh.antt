@@ -13,22 +13,23 @@ use Rattle.graph_eval.specs.declared.fresh.Fresh.TheVariants as fresh
 use Rattle.graph_eval.specs.declared.own.NodeLearned.{NodeLearned}
 use Rattle.graph_eval.specs.declared.learned.GraphLearned.{GraphLearned}
 use Rattle.graph_eval.specs.declared.outcome.Cause.{Cause}
+use Rattle.graph_eval.specs.declared.shapes.GraphSize.{GraphSize}
 use Rattle.graph_eval.specs.declared.outcome.Cause.TheVariants.{System}
 use Rattle.graph_eval.specs.Evaluated.{IsNeededNode, no_graphs}
 use Rattle.graph_eval.specs.GraphValue.{FirstLists, Meaning, NodeFails, meanings, named}
-use Rattle.graph_eval.specs.Learned.{ArePlans, FailsLength, FirstLengths, FitsGraph, listed_length, named_length, node_length, plan_of}
+use Rattle.graph_eval.specs.Learned.{ArePlans, FailsLength, FirstLengths, FitsGraph, listed_length, named_length, node_length, plan_of, sets_of, sizes_of}
 use Rattle.graph_eval.specs.Systems.{rows_in}
 
 -- By its length rules alone, for a graph none of whose needed nodes is a solver: what was learned fits the graph, with no
 -- point, or the rule of a node's length fails.
-abbrev pub IsMeasured : Graph → Fresh → Type 0
-IsMeasured graph (fresh.Learned learned) = (learned.point ≡ None) × FitsGraph graph learned
-IsMeasured graph (fresh.Singular singular) = ⊥
-IsMeasured graph (fresh.Length node) = FailsLength graph node
+abbrev pub IsMeasured : List GraphSize → Graph → Fresh → Type 0
+IsMeasured sizes graph (fresh.Learned learned) = (learned.point ≡ None) × FitsGraph sizes graph learned
+IsMeasured sizes graph (fresh.Singular singular) = ⊥
+IsMeasured sizes graph (fresh.Length node) = FailsLength sizes graph node
 
 -- the same of the graph with this number
-abbrev pub IsMeasuredAt : List Graph → ℕ → Fresh → Type 0
-IsMeasuredAt graphs number answer = (graph : Graph) × (slice_get graphs number ≡ Some graph) × IsMeasured graph answer
+abbrev pub IsMeasuredAt : List Graph → List GraphLearned → ℕ → Fresh → Type 0
+IsMeasuredAt graphs learned number answer = (graph : Graph) × (slice_get graphs number ≡ Some graph) × IsMeasured (sizes_of graphs learned) graph answer
 
 -- the set of a node that solves a system with so many entries: the independent unknowns of its own system, or nothing
 -- where the list that it names hasn't as many
@@ -49,31 +50,31 @@ NodeLearns m list node set = MatchBool node.needed (KindLearns m list node.kind 
 pub record HasPlanOrFails (m : ℕ) (list : Source → List ℕ) (node : Node) (own : NodeLearned) : Type 0 where
   pub planned : own.planned ≡ true → own.plan ≡ plan_of own.set node
   pub needed : own.planned ≡ false → IsTrue node.needed
-  pub fails : own.planned ≡ false → (count : ℕ) → listed_length list own.set node.kind ≡ Some count → IsPrime m → NodeFails m no_graphs own.set list node System
+  pub fails : own.planned ≡ false → (sizes : List GraphSize) (count : ℕ) → listed_length sizes list own.set node.kind ≡ Some count → IsPrime m → NodeFails m no_graphs own.set list node System
 
 -- a graph's first nodes at a point: each with its own set, its length by its rule with this set, and its list over it
-pub record FirstLearned (m : ℕ) (called : ℕ → Meaning) (graph : Graph) (inputs : List ℕ) (sets : List (List ℕ)) (lengths : List ℕ) (lists : List (List ℕ)) : Type 0 where
+pub record FirstLearned (m : ℕ) (called : ℕ → Meaning) (sizes : List GraphSize) (graph : Graph) (inputs : List ℕ) (sets : List (List ℕ)) (lengths : List ℕ) (lists : List (List ℕ)) : Type 0 where
   pub many_sets : length sets ≡ length lists
   pub many_lengths : length lengths ≡ length lists
   pub own : (n : ℕ) (node : Node) → n < length lists → slice_get graph.nodes n ≡ Some node → NodeLearns m (named inputs (take n lists)) node (slice_index_or sets n [])
-  pub measured : FirstLengths graph sets lengths
+  pub measured : FirstLengths sizes graph sets lengths
   pub given : FirstLists m called sets graph.nodes inputs lists
 
 -- no node fails, and their sets, plans and lengths were learned, and the output's length
-pub record IsLearned (m : ℕ) (called : ℕ → Meaning) (graph : Graph) (inputs : List ℕ) (learned : GraphLearned) : Type 0 where
+pub record IsLearned (m : ℕ) (called : ℕ → Meaning) (sizes : List GraphSize) (graph : Graph) (inputs : List ℕ) (learned : GraphLearned) : Type 0 where
   pub lists : List (List ℕ)
-  pub first : FirstLearned m called graph inputs learned.sets learned.lengths lists
+  pub first : FirstLearned m called sizes graph inputs learned.sets learned.lengths lists
   pub all : length lists ≡ length graph.nodes
   pub plans : ArePlans graph.nodes learned.sets learned.plans
   pub output : learned.output ≡ named_length (length graph.inputs) learned.lengths graph.output
   pub point : learned.point ≡ None
 
 -- the nodes before the n-th don't fail, and the n-th has this set of its own
-pub record IsReached (m : ℕ) (called : ℕ → Meaning) (graph : Graph) (inputs : List ℕ) (n : ℕ) : Type 0 where
+pub record IsReached (m : ℕ) (called : ℕ → Meaning) (sizes : List GraphSize) (graph : Graph) (inputs : List ℕ) (n : ℕ) : Type 0 where
   pub sets : List (List ℕ)
   pub lengths : List ℕ
   pub lists : List (List ℕ)
-  pub first : FirstLearned m called graph inputs sets lengths lists
+  pub first : FirstLearned m called sizes graph inputs sets lengths lists
   pub before : length lists ≡ n
   pub node : Node
   pub is_node : slice_get graph.nodes n ≡ Some node
@@ -81,33 +82,33 @@ pub record IsReached (m : ℕ) (called : ℕ → Meaning) (graph : Graph) (input
   pub own : NodeLearns m (named inputs lists) node set
 
 -- the n-th node is the first that fails, by the rule of its length
-pub record BreaksLength (m : ℕ) (called : ℕ → Meaning) (graph : Graph) (inputs : List ℕ) (n : ℕ) : Type 0 where
-  pub reached : IsReached m called graph inputs n
-  pub breaks : node_length (length graph.inputs) reached.lengths reached.set reached.node ≡ None
+pub record BreaksLength (m : ℕ) (called : ℕ → Meaning) (sizes : List GraphSize) (graph : Graph) (inputs : List ℕ) (n : ℕ) : Type 0 where
+  pub reached : IsReached m called sizes graph inputs n
+  pub breaks : node_length sizes (length graph.inputs) reached.lengths reached.set reached.node ≡ None
 
 -- the n-th node is the first that fails: it has a length, and no value
-pub record HasNoValue (m : ℕ) (called : ℕ → Meaning) (graph : Graph) (inputs : List ℕ) (n : ℕ) (cause : Cause) : Type 0 where
-  pub reached : IsReached m called graph inputs n
+pub record HasNoValue (m : ℕ) (called : ℕ → Meaning) (sizes : List GraphSize) (graph : Graph) (inputs : List ℕ) (n : ℕ) (cause : Cause) : Type 0 where
+  pub reached : IsReached m called sizes graph inputs n
   pub own_length : ℕ
-  pub measured : node_length (length graph.inputs) reached.lengths reached.set reached.node ≡ Some own_length
+  pub measured : node_length sizes (length graph.inputs) reached.lengths reached.set reached.node ≡ Some own_length
   pub fails : NodeFails m called reached.set (named inputs reached.lists) reached.node cause
 
 -- what learning a graph at a point answers, given what the earlier graphs mean
-abbrev pub IsFresh : ℕ → (ℕ → Meaning) → Graph → List ℕ → Fresh → Type 0
-IsFresh m called graph inputs (fresh.Learned learned) = IsLearned m called graph inputs learned
-IsFresh m called graph inputs (fresh.Singular singular) = HasNoValue m called graph inputs singular.node singular.cause
-IsFresh m called graph inputs (fresh.Length node) = BreaksLength m called graph inputs node
+abbrev pub IsFresh : ℕ → (ℕ → Meaning) → List GraphSize → Graph → List ℕ → Fresh → Type 0
+IsFresh m called sizes graph inputs (fresh.Learned learned) = IsLearned m called sizes graph inputs learned
+IsFresh m called sizes graph inputs (fresh.Singular singular) = HasNoValue m called sizes graph inputs singular.node singular.cause
+IsFresh m called sizes graph inputs (fresh.Length node) = BreaksLength m called sizes graph inputs node
 
--- the same of the graph with this number in a file, where `learned` has the sets of the graphs before it
-abbrev pub IsFreshAt : ℕ → List Graph → List (List (List ℕ)) → ℕ → List ℕ → Fresh → Type 0
-IsFreshAt m graphs learned number inputs answer = (graph : Graph) × (slice_get graphs number ≡ Some graph) × IsFresh m (meanings m graphs learned number) graph inputs answer
+-- the same of the graph with this number in a file, where `learned` is what was learned of the graphs before it
+abbrev pub IsFreshAt : ℕ → List Graph → List GraphLearned → ℕ → List ℕ → Fresh → Type 0
+IsFreshAt m graphs learned number inputs answer = (graph : Graph) × (slice_get graphs number ≡ Some graph) × IsFresh m (meanings m graphs (sets_of learned) number) (sizes_of graphs learned) graph inputs answer
 
 -- whatever the modulus: what was learned fits the graph, with no point, and a node that is told is needed
-abbrev pub FitsFresh : Graph → Fresh → Type 0
-FitsFresh graph (fresh.Learned learned) = (learned.point ≡ None) × FitsGraph graph learned
-FitsFresh graph (fresh.Singular singular) = IsNeededNode graph singular.node
-FitsFresh graph (fresh.Length node) = IsNeededNode graph node
+abbrev pub FitsFresh : List GraphSize → Graph → Fresh → Type 0
+FitsFresh sizes graph (fresh.Learned learned) = (learned.point ≡ None) × FitsGraph sizes graph learned
+FitsFresh sizes graph (fresh.Singular singular) = IsNeededNode graph singular.node
+FitsFresh sizes graph (fresh.Length node) = IsNeededNode graph node
 
 -- the same of the graph with this number
-abbrev pub FitsFreshAt : List Graph → ℕ → Fresh → Type 0
-FitsFreshAt graphs number answer = (graph : Graph) × (slice_get graphs number ≡ Some graph) × FitsFresh graph answer
+abbrev pub FitsFreshAt : List Graph → List GraphLearned → ℕ → Fresh → Type 0
+FitsFreshAt graphs learned number answer = (graph : Graph) × (slice_get graphs number ≡ Some graph) × FitsFresh (sizes_of graphs learned) graph answer

@@ -30,6 +30,30 @@ abbrev pub named : List ℕ → List (List ℕ) → Source → List ℕ
 named inputs earlier source.Input = inputs
 named inputs earlier (source.Node number) = slice_index_or earlier number []
 
+-- a graph has one outcome at most at the same inputs
+pub record IsOnce (called : Meaning) : Type 0 where
+  pub once : (inputs : List ℕ) (one other : Outcome) → called inputs one → called inputs other → one ≡ other
+
+-- a graph gives these lists on the first of some lists, each on its own
+pub record GivesFirst (called : Meaning) (ins outs : List (List ℕ)) : Type 0 where
+  pub within : length outs ≤ length ins
+  pub each : (n : ℕ) → n < length outs → called (slice_index_or ins n []) (Value (slice_index_or outs n []))
+
+-- a graph has a value on each of some lists, and these are its values one after the other
+pub record IsMapped (called : Meaning) (ins : List (List ℕ)) (values : List ℕ) : Type 0 where
+  pub outs : List (List ℕ)
+  pub first : GivesFirst called ins outs
+  pub all : length outs ≡ length ins
+  pub values_are : values ≡ chained outs
+
+-- a graph is singular on one of some lists, for this cause, and has a value on those before it
+pub record IsStopped (called : Meaning) (ins : List (List ℕ)) (cause : Cause) : Type 0 where
+  pub outs : List (List ℕ)
+  pub first : GivesFirst called ins outs
+  pub before : length outs < length ins
+  pub node : ℕ
+  pub singular : called (slice_index_or ins (length outs) []) (SingularAt node cause)
+
 -- A node of this kind has these values, on the lists that its sources name. `called` is what the earlier
 -- graphs of the file mean, and `learned` holds the unknowns that were learned for the node.
 abbrev pub KindGives : ℕ → (ℕ → Meaning) → List ℕ → (Source → List ℕ) → NodeKind → List ℕ → Type 0

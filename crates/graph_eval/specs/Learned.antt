@@ -20,6 +20,7 @@ use Rattle.graph_file.specs.declared.graph.NodeKind.TheVariants.{Eval, Take, Sli
 use Rattle.graph_file.specs.declared.graph.Source.{Source}
 use Rattle.graph_file.specs.declared.graph.Source.TheVariants as source
 use Rattle.graph_eval.specs.declared.learned.GraphLearned.{GraphLearned}
+use Rattle.graph_eval.specs.declared.shapes.GraphSize.{GraphSize}
 
 -- whether a node of this kind solves a system of equations
 abbrev pub is_system : NodeKind → Bool
@@ -32,17 +33,27 @@ abbrev pub greatest_among : List Expr → ℕ
 greatest_among [] = 0
 greatest_among (expr ∷ rest) = max (greatest expr) (greatest_among rest)
 
--- what the length of a node's list depends on, where the set was learned for the node
-abbrev pub shape_of : List ℕ → NodeKind → NodeShape
-shape_of set (Eval from exprs) = shape.Eval (length exprs) (greatest_among exprs)
-shape_of set (Take parts) = shape.Take (map (λ part. part.1) parts)
-shape_of set (Slice from first last) = shape.Slice first last
-shape_of set (Chain parts) = shape.Chain
-shape_of set (Sum parts) = shape.Sum
-shape_of set (Product parts) = shape.Product
-shape_of set (Matmul left right rows mid cols) = shape.Matmul rows mid cols
-shape_of set (Dense from rows unknowns want) = shape.Solver (rows * (unknowns + 1)) (length want) (length set)
-shape_of set (Sparse from unknowns want rows) = shape.Solver (entries_of rows) (length want) (length set)
+-- how many inputs a graph has, and how long its output is, as was learned
+abbrev pub size_of : Graph → GraphLearned → GraphSize
+size_of graph learned = record { inputs = length graph.inputs; outputs = learned.output }
+
+-- the same of each of the first graphs of a file, of which this was learned
+abbrev pub sizes_of : List Graph → List GraphLearned → List GraphSize
+sizes_of graphs [] = []
+sizes_of [] (entry ∷ learned) = []
+sizes_of (graph ∷ graphs) (entry ∷ learned) = size_of graph entry ∷ sizes_of graphs learned
+
+-- what the length of a node's list depends on, where the set was learned for the node, and the graphs before its own have these sizes
+abbrev pub shape_of : List GraphSize → List ℕ → NodeKind → NodeShape
+shape_of sizes set (Eval from exprs) = shape.Eval (length exprs) (greatest_among exprs)
+shape_of sizes set (Take parts) = shape.Take (map (λ part. part.1) parts)
+shape_of sizes set (Slice from first last) = shape.Slice first last
+shape_of sizes set (Chain parts) = shape.Chain
+shape_of sizes set (Sum parts) = shape.Sum
+shape_of sizes set (Product parts) = shape.Product
+shape_of sizes set (Matmul left right rows mid cols) = shape.Matmul rows mid cols
+shape_of sizes set (Dense from rows unknowns want) = shape.Solver (rows * (unknowns + 1)) (length want) (length set)
+shape_of sizes set (Sparse from unknowns want rows) = shape.Solver (entries_of rows) (length want) (length set)
 
 -- the length of the list that a source names, where there are so many inputs and the nodes have these lengths
 abbrev pub named_length : ℕ → List ℕ → Source → ℕ
@@ -50,12 +61,12 @@ named_length inputs lengths source.Input = inputs
 named_length inputs lengths (source.Node number) = slice_index lengths number
 
 -- the length that the rule of a node's kind gives on the lengths of the lists that the node names
-abbrev pub kind_length : ℕ → List ℕ → List ℕ → NodeKind → Option ℕ
-kind_length inputs earlier set kind = length_rule (shape_of set kind) (map (named_length inputs earlier) (sources_of kind))
+abbrev pub kind_length : List GraphSize → ℕ → List ℕ → List ℕ → NodeKind → Option ℕ
+kind_length sizes inputs earlier set kind = length_rule (shape_of sizes set kind) (map (named_length inputs earlier) (sources_of kind))
 
 -- the same on the lists themselves
-abbrev pub listed_length : (Source → List ℕ) → List ℕ → NodeKind → Option ℕ
-listed_length list set kind = length_rule (shape_of set kind) (map (λ from. length (list from)) (sources_of kind))
+abbrev pub listed_length : List GraphSize → (Source → List ℕ) → List ℕ → NodeKind → Option ℕ
+listed_length sizes list set kind = length_rule (shape_of sizes set kind) (map (λ from. length (list from)) (sources_of kind))
 
 -- the length, where the lists of a graph then have at most 2097152 entries together
 abbrev pub joined_length : List ℕ → ℕ → Option ℕ
@@ -63,13 +74,13 @@ joined_length earlier own = if nat_le (sum earlier + own) 2097152 then Some own 
 
 -- the length of a node's list behind nodes of these lengths, where the set was learned for the node, or None where a rule
 -- fails; a node that isn't needed has length 0
-abbrev pub node_length : ℕ → List ℕ → List ℕ → Node → Option ℕ
-node_length inputs earlier set node = if node.needed then option_and_then (joined_length earlier) (kind_length inputs earlier set node.kind) else Some 0
+abbrev pub node_length : List GraphSize → ℕ → List ℕ → List ℕ → Node → Option ℕ
+node_length sizes inputs earlier set node = if node.needed then option_and_then (joined_length earlier) (kind_length sizes inputs earlier set node.kind) else Some 0
 
 -- the lengths of the lists of a graph's first nodes, each by its rule on the lengths before it, with its learned set
-pub record FirstLengths (graph : Graph) (sets : List (List ℕ)) (lengths : List ℕ) : Type 0 where
+pub record FirstLengths (sizes : List GraphSize) (graph : Graph) (sets : List (List ℕ)) (lengths : List ℕ) : Type 0 where
   pub within : length lengths ≤ length graph.nodes
-  pub each : (n : ℕ) (node : Node) → n < length lengths → slice_get graph.nodes n ≡ Some node → node_length (length graph.inputs) (take n lengths) (slice_index_or sets n []) node ≡ Some (slice_index lengths n)
+  pub each : (n : ℕ) (node : Node) → n < length lengths → slice_get graph.nodes n ≡ Some node → node_length sizes (length graph.inputs) (take n lengths) (slice_index_or sets n []) node ≡ Some (slice_index lengths n)
 
 -- what may be learned for a node of this kind: unknowns of a solver, ascending, and nothing for another node
 abbrev pub IsKindSet : NodeKind → List ℕ → Type 0
@@ -105,8 +116,8 @@ pub record AreNone (count : ℕ) (plans : List (Option Plan)) : Type 0 where
   pub each : (n : ℕ) → slice_index_or plans n None ≡ None
 
 -- the node has so many entries by the rule of its kind on the lists that it names, and none where it isn't needed
-abbrev pub HasOwnLength : (Source → List ℕ) → List ℕ → Node → ℕ → Type 0
-HasOwnLength list set node own = MatchBool node.needed (listed_length list set node.kind ≡ Some own) (own ≡ 0)
+abbrev pub HasOwnLength : List GraphSize → (Source → List ℕ) → List ℕ → Node → ℕ → Type 0
+HasOwnLength sizes list set node own = MatchBool node.needed (listed_length sizes list set node.kind ≡ Some own) (own ≡ 0)
 
 -- as many empty sets
 pub record AreEmpty (count : ℕ) (sets : List (List ℕ)) : Type 0 where
@@ -114,23 +125,23 @@ pub record AreEmpty (count : ℕ) (sets : List (List ℕ)) : Type 0 where
   pub each : (n : ℕ) → slice_index_or sets n [] ≡ []
 
 -- what was learned of a graph has a set and a plan for every node, the length of every node's list, and that of the output
-pub record FitsGraph (graph : Graph) (learned : GraphLearned) : Type 0 where
+pub record FitsGraph (sizes : List GraphSize) (graph : Graph) (learned : GraphLearned) : Type 0 where
   pub many : length learned.sets ≡ length graph.nodes
   pub sets : (n : ℕ) (node : Node) → slice_get graph.nodes n ≡ Some node → IsSetFor node (slice_index_or learned.sets n [])
   pub plans : ArePlans graph.nodes learned.sets learned.plans
-  pub first : FirstLengths graph learned.sets learned.lengths
+  pub first : FirstLengths sizes graph learned.sets learned.lengths
   pub all : length learned.lengths ≡ length graph.nodes
   pub output : learned.output ≡ named_length (length graph.inputs) learned.lengths graph.output
 
 -- what was learned of a graph of so many inputs has a set, a plan and a length for the node at this place, which is sound
-pub record FitsNode (inputs : ℕ) (learned : GraphLearned) (place : ℕ) (node : Node) : Type 0 where
+pub record FitsNode (sizes : List GraphSize) (inputs : ℕ) (learned : GraphLearned) (place : ℕ) (node : Node) : Type 0 where
   pub sound : IsKind inputs place node.kind
   pub many_sets : place < length learned.sets
   pub many_plans : place < length learned.plans
   pub many_lengths : place < length learned.lengths
   pub set : IsSetFor node (slice_index_or learned.sets place [])
   pub plan : slice_index_or learned.plans place None ≡ plan_of (slice_index_or learned.sets place []) node
-  pub long : node_length inputs (take place learned.lengths) (slice_index_or learned.sets place []) node ≡ Some (slice_index learned.lengths place)
+  pub long : node_length sizes inputs (take place learned.lengths) (slice_index_or learned.sets place []) node ≡ Some (slice_index learned.lengths place)
 
 -- whether the node is a solver whose value is needed
 abbrev pub is_solver : Node → Bool
@@ -146,13 +157,13 @@ IsPlainAt graphs number = (graph : Graph) → slice_get graphs number ≡ Some g
 
 -- where nothing is learned for any node, every node before the n-th has a length, and the rule of the n-th, which is
 -- needed, fails
-pub record FailsLength (graph : Graph) (n : ℕ) : Type 0 where
+pub record FailsLength (sizes : List GraphSize) (graph : Graph) (n : ℕ) : Type 0 where
   pub lengths : List ℕ
-  pub first : FirstLengths graph [] lengths
+  pub first : FirstLengths sizes graph [] lengths
   pub before : length lengths ≡ n
   pub node : Node
   pub is_node : slice_get graph.nodes n ≡ Some node
-  pub fails : node_length (length graph.inputs) lengths [] node ≡ None
+  pub fails : node_length sizes (length graph.inputs) lengths [] node ≡ None
 
 -- each of these graphs is sound
 pub record AreGraphs (graphs : List Graph) : Type 0 where
@@ -161,7 +172,7 @@ pub record AreGraphs (graphs : List Graph) : Type 0 where
 -- what was learned of the first so many graphs of a file, an entry for each in order
 pub record FitsFirst (graphs : List Graph) (learned : List GraphLearned) (count : ℕ) : Type 0 where
   pub many : length learned ≡ count
-  pub each : (k : ℕ) (graph : Graph) (entry : GraphLearned) → slice_get graphs k ≡ Some graph → slice_get learned k ≡ Some entry → FitsGraph graph entry
+  pub each : (k : ℕ) (graph : Graph) (entry : GraphLearned) → slice_get graphs k ≡ Some graph → slice_get learned k ≡ Some entry → FitsGraph (sizes_of graphs (take k learned)) graph entry
 
 -- what was learned of all graphs of a file
 abbrev pub Fits : List Graph → List GraphLearned → Type 0

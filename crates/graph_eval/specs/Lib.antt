@@ -3,6 +3,7 @@ pub mod Fresh
 pub mod GraphValue
 pub mod Learned
 pub mod Made
+pub mod Memos
 pub mod Needs
 pub mod Reading
 pub mod Stacked

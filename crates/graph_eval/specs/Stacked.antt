@@ -1,12 +1,13 @@
 -- Evaluating a graph on a stack of words: its inputs are on top, and its output takes their place.
-use Rattle.std.specs.Prelude.{◌≡◌, ℕ, ◌+◌, ◌<◌, ◌≤◌, All, List, ◌++◌, length, take, drop, slice_get, Some}
+use Rattle.std.specs.Prelude.{◌≡◌, ℕ, ◌+◌, ◌*◌, ◌<◌, ◌≤◌, All, List, ◌++◌, length, take, drop, slice_get, Some}
 use Rattle.word_region.specs.Board.{Board}
 use Rattle.prime_field.specs.Residue.{IsPrime}
+use Rattle.basic_nodes.specs.Plain.{chained}
 use Rattle.graph_file.specs.declared.graph.Graph.{Graph}
 use Rattle.graph_file.specs.declared.graph.Node.{Node}
 use Rattle.graph_file.specs.declared.graph.Source.{Source}
 use Rattle.graph_eval.specs.declared.learned.GraphLearned.{GraphLearned}
-use Rattle.graph_eval.specs.GraphValue.{GraphValue, Meaning, NodeGives, Value}
+use Rattle.graph_eval.specs.GraphValue.{GivesFirst, GraphValue, Meaning, NodeGives, Value}
 use Rattle.graph_eval.specs.Learned.{sets_of}
 use Rattle.graph_eval.specs.Needs.{words_for}
 
@@ -31,3 +32,20 @@ pub record IsAdded (m : ℕ) (called : ℕ → Meaning) (set : List ℕ) (list :
   pub gives : IsPrime m → NodeGives m called set list node values
   pub low : All (λ x. x < m) values
   pub long : length values ≡ own
+
+-- an earlier graph's output at these inputs stands behind the words that were there
+pub record IsCalled (m : ℕ) (graphs : List Graph) (learned : List GraphLearned) (called : ℕ) (inputs old new : List ℕ) : Type 0 where
+  pub values : List ℕ
+  pub words : new ≡ old ++ values
+  pub value : IsPrime m → GraphValue m graphs (sets_of learned) called inputs (Value values)
+  pub low : All (λ x. x < m) values
+  pub long : (entry : GraphLearned) → slice_get learned called ≡ Some entry → length values ≡ entry.output
+
+-- an earlier graph's outputs at each of the first so many inputs stand behind the words that were there
+pub record AreCalled (m : ℕ) (graphs : List Graph) (learned : List GraphLearned) (called : ℕ) (ins : List (List ℕ)) (count : ℕ) (old new : List ℕ) : Type 0 where
+  pub outs : List (List ℕ)
+  pub many : length outs ≡ count
+  pub words : new ≡ old ++ chained outs
+  pub first : IsPrime m → GivesFirst (GraphValue m graphs (sets_of learned) called) ins outs
+  pub low : All (All (λ x. x < m)) outs
+  pub long : (entry : GraphLearned) → slice_get learned called ≡ Some entry → length (chained outs) ≡ count * entry.output

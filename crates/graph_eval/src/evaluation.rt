@@ -1,6 +1,6 @@
 //! Evaluating a graph in one run of words: its inputs stand on top of a stack, and its output takes their place.
 
-ghost use Rattle.std.specs.Prelude.{◌≡◌, ◌+◌, ◌-◌, ◌<◌, ◌≤◌, [], All, Some, IfErr, OnErr, OnOk, IsTrue, drop, length, slice_get, slice_index, slice_index_or, sum, take};
+ghost use Rattle.std.specs.Prelude.{◌≡◌, ◌+◌, ◌-◌, ◌<◌, ◌≤◌, [], All, Some, IfErr, OnErr, OnOk, IsTrue, List, drop, length, slice_get, slice_index, slice_index_or, sum, take};
 ghost use Rattle.std.specs.Option.{option_copied};
 ghost use Rattle.prime_field.specs.Modulus.{value_of};
 ghost use Rattle.prime_field.specs.Residue.{IsPrime};
@@ -13,6 +13,7 @@ ghost use Rattle.graph_eval.specs.Needs.{AreTables};
 ghost use Rattle.graph_eval.specs.Reading.{AreListed, HasPlaces, IsThere, placed, places_of, start_of, stop_of};
 ghost use Rattle.graph_eval.specs.Stacked.{IsAdded, IsReady, IsReplaced};
 ghost use Rattle.graph_eval.specs.Systems.{AreEnoughFor, words_of};
+ghost use Rattle.graph_eval.specs.declared.shapes.GraphSize.{GraphSize};
 
 use crate::kinds::{placed, write_chained, write_product, write_sum, write_taken, write_values};
 use crate::learned::GraphLearned;
@@ -47,7 +48,7 @@ pub(crate) fn write_list(
     requires plan { option_copied plan ≡ kind_plan set.now kind.now }
     requires work { words_of kind.now ≤ length work.old }
     requires residues { All (λ x. x < value_of m) words.now }
-    requires room { listed_length (placed words.now places.now) set.now kind.now ≡ Some (length out.old) }
+    requires room { (sizes : List GraphSize) × (listed_length sizes (placed words.now places.now) set.now kind.now ≡ Some (length out.old)) }
     ensures ok { OnOk result (IsPrime (value_of m) → KindGives (value_of m) no_graphs set.now (placed words.now places.now) kind.now out.new) }
     ensures err { IfErr result (λ cause. IsPrime (value_of m) → KindFails (value_of m) no_graphs set.now (placed words.now places.now) kind.now cause) }
     ensures residues { OnOk result (All (λ x. x < value_of m) out.new) }
@@ -118,7 +119,7 @@ fn push_node(
     stack: &mut Stack,
     work: &mut [u64],
 ) -> Result<(), Cause>
-    requires fits { FitsNode (slice_index places.now 0) learned.now place node.now }
+    requires fits { (sizes : List GraphSize) × FitsNode sizes (slice_index places.now 0) learned.now place node.now }
     requires places { places.now ≡ places_of (slice_index places.now 0) learned.now.lengths }
     requires base { base ≤ length stack.old.words }
     requires listed { AreListed (slice_index places.now 0) (take place learned.now.lengths) (drop base stack.old.words) }

@@ -6,12 +6,13 @@ ghost use Rattle.prime_field.specs.Residue.{IsPrime};
 ghost use Rattle.graph_file.specs.Sound.{IsGraph};
 ghost use Rattle.graph_eval.specs.Evaluated.{HasInputs, no_graphs};
 ghost use Rattle.graph_eval.specs.Fresh.{FitsFresh, FitsFreshAt, IsFresh, IsFreshAt};
-ghost use Rattle.graph_eval.specs.Learned.{FitsFirst, sets_of};
+ghost use Rattle.graph_eval.specs.Learned.{FitsFirst};
 
 use crate::learned::{GraphLearned, Learned};
 use crate::lengths::{learned_of, node_length};
 use crate::outcome::Singular;
 use crate::own::{learn_node, push_own};
+use crate::shapes::{GraphSize, sizes_of};
 use crate::systems::greatest_work;
 use graph_file::{Graph, Job};
 use poly_maps::Point;
@@ -32,12 +33,18 @@ pub enum Fresh {
 }
 
 /// What is learned of a graph that calls no other at these inputs.
-fn learn_graph(alloc: Global, m: Modulus, graph: &Graph, inputs: &[u64]) -> Result<Fresh, NoMemory>
+fn learn_graph(
+    alloc: Global,
+    m: Modulus,
+    graph: &Graph,
+    sizes: &[GraphSize],
+    inputs: &[u64],
+) -> Result<Fresh, NoMemory>
     requires sound { IsGraph graph.now }
     requires residues { All (λ x. x < value_of m) inputs.now }
     requires entries { length inputs.now ≡ length graph.now.inputs }
-    ensures fresh { IfOk result (λ fresh. IsPrime (value_of m) → IsFresh (value_of m) no_graphs graph.now inputs.now fresh) }
-    ensures fits { IfOk result (FitsFresh graph.now) }
+    ensures fresh { IfOk result (λ fresh. IsPrime (value_of m) → IsFresh (value_of m) no_graphs sizes.now graph.now inputs.now fresh) }
+    ensures fits { IfOk result (FitsFresh sizes.now graph.now) }
 {
     let mut work = vec![in alloc; 0; greatest_work(graph)]?;
     let work = work.as_mut_slice();
@@ -53,7 +60,7 @@ fn learn_graph(alloc: Global, m: Modulus, graph: &Graph, inputs: &[u64]) -> Resu
         let own = learn_node(alloc, m, node, words.as_slice(), before, work)?;
         let set = own.set.as_slice();
         let earlier = lengths.as_slice();
-        let Some(count) = node_length(alloc, node, set, inputs.len(), earlier, total)? else {
+        let Some(count) = node_length(alloc, node, set, sizes, inputs.len(), earlier, total)? else {
             return Ok(Fresh::Length { node: place as u32 });
         };
         if let Err(cause) = push_own(m, node, &own, count as usize, &mut words, before, work)? {
@@ -87,11 +94,10 @@ pub fn fresh_point(
     requires there { graph < length job.now.graphs }
     requires before { FitsFirst job.now.graphs learned.now graph }
     requires entries { HasInputs (slice_get job.now.graphs graph) point.now }
-    ensures fresh { IfOk result (λ fresh. IsPrime (value_of m) → IsFreshAt (value_of m) job.now.graphs (sets_of learned.now) graph point.now fresh) }
-    ensures fits { IfOk result (FitsFreshAt job.now.graphs graph) }
+    ensures fresh { IfOk result (λ fresh. IsPrime (value_of m) → IsFreshAt (value_of m) job.now.graphs learned.now graph point.now fresh) }
+    ensures fits { IfOk result (FitsFreshAt job.now.graphs learned.now graph) }
 {
-    // No kind of node rests on another graph, so what was learned of earlier ones isn't read.
-    let _earlier = learned;
-    let graph = &job.graphs.as_slice()[graph as usize];
-    Ok(learn_graph(alloc, m, graph, point.entries())?)
+    let graphs = job.graphs.as_slice();
+    let sizes = sizes_of(alloc, graphs, learned.all())?;
+    learn_graph(alloc, m, &graphs[graph as usize], sizes.as_slice(), point.entries())
 }

@@ -9,6 +9,7 @@ ghost use Rattle.graph_eval.specs.GraphValue.{GraphValue, Outcome};
 ghost use Rattle.graph_eval.specs.Learned.{FailsLength, FitsGraph, IsPlainAt, has_solver};
 ghost use Rattle.graph_eval.specs.declared.fresh.Fresh.{Fresh};
 ghost use Rattle.graph_eval.specs.declared.learned.GraphLearned.{GraphLearned};
+ghost use Rattle.graph_eval.specs.declared.shapes.GraphSize.{GraphSize};
 
 /// A graph has at most one outcome at a point: its value, or one singular node with one cause.
 pub fn one_outcome()
@@ -19,17 +20,17 @@ pub fn one_outcome()
 /// With the same sets, the lists of a graph have one length each, its output has one, and its nodes have the same plans.
 /// Where nothing is learned for any node, either the lists have lengths or one node's length breaks a rule.
 pub fn one_length()
-    ensures lengths { (graph : Graph) (a b : GraphLearned) → a.sets ≡ b.sets → FitsGraph graph a → FitsGraph graph b → a.lengths ≡ b.lengths }
-    ensures output { (graph : Graph) (a b : GraphLearned) → a.sets ≡ b.sets → FitsGraph graph a → FitsGraph graph b → a.output ≡ b.output }
-    ensures plans { (graph : Graph) (a b : GraphLearned) → a.sets ≡ b.sets → FitsGraph graph a → FitsGraph graph b → a.plans ≡ b.plans }
-    ensures sets { (graph : Graph) (a b : GraphLearned) → has_solver graph ≡ false → FitsGraph graph a → FitsGraph graph b → a.sets ≡ b.sets }
-    ensures either { (graph : Graph) (a : GraphLearned) (n : ℕ) → has_solver graph ≡ false → FitsGraph graph a → FailsLength graph n → ⊥ }
-    ensures node { (graph : Graph) (n k : ℕ) → FailsLength graph n → FailsLength graph k → n ≡ k }
+    ensures lengths { (sizes : List GraphSize) (graph : Graph) (a b : GraphLearned) → a.sets ≡ b.sets → FitsGraph sizes graph a → FitsGraph sizes graph b → a.lengths ≡ b.lengths }
+    ensures output { (sizes : List GraphSize) (graph : Graph) (a b : GraphLearned) → a.sets ≡ b.sets → FitsGraph sizes graph a → FitsGraph sizes graph b → a.output ≡ b.output }
+    ensures plans { (sizes : List GraphSize) (graph : Graph) (a b : GraphLearned) → a.sets ≡ b.sets → FitsGraph sizes graph a → FitsGraph sizes graph b → a.plans ≡ b.plans }
+    ensures sets { (sizes : List GraphSize) (graph : Graph) (a b : GraphLearned) → has_solver graph ≡ false → FitsGraph sizes graph a → FitsGraph sizes graph b → a.sets ≡ b.sets }
+    ensures either { (sizes : List GraphSize) (graph : Graph) (a : GraphLearned) (n : ℕ) → has_solver graph ≡ false → FitsGraph sizes graph a → FailsLength sizes graph n → ⊥ }
+    ensures node { (sizes : List GraphSize) (graph : Graph) (n k : ℕ) → FailsLength sizes graph n → FailsLength sizes graph k → n ≡ k }
 {}
 
 /// The length rules alone have at most one answer for a graph none of whose needed nodes is a solver.
 pub fn one_measured()
-    ensures { (graphs : List Graph) (number : ℕ) (a b : Fresh) → IsPlainAt graphs number → IsMeasuredAt graphs number a → IsMeasuredAt graphs number b → a ≡ b }
+    ensures { (graphs : List Graph) (learned : List GraphLearned) (number : ℕ) (a b : Fresh) → IsPlainAt graphs number → IsMeasuredAt graphs learned number a → IsMeasuredAt graphs learned number b → a ≡ b }
 {}
 
 /// A system's values over a set are one list at most.
@@ -46,6 +47,6 @@ pub fn one_set()
 
 /// Learning a graph at a point has at most one answer, as long as the same was learned of the graphs before it.
 pub fn one_fresh()
-    ensures { (m : ℕ) (graphs : List Graph) (learned : List (List (List ℕ))) (number : ℕ) (inputs : List ℕ) (a b : Fresh) → 1 < m
+    ensures { (m : ℕ) (graphs : List Graph) (learned : List GraphLearned) (number : ℕ) (inputs : List ℕ) (a b : Fresh) → 1 < m
         → IsFreshAt m graphs learned number inputs a → IsFreshAt m graphs learned number inputs b → a ≡ b }
 {}

@@ -3,11 +3,11 @@
 ghost use Rattle.std.specs.Prelude.{◌≡◌, ◌+◌, ◌<◌, ◌≤◌, [], false, All, IfOk, IfSome, None, length, map, sum, vec_len};
 ghost use Rattle.graph_file.specs.Sound.{IsEarlier, IsGraph, IsKind, IsNode};
 ghost use Rattle.graph_eval.specs.Fresh.{IsMeasured, IsMeasuredAt};
-ghost use Rattle.graph_eval.specs.Learned.{AreEmpty, AreNone, FitsFirst, IsKindSet, IsPlainAt, IsSetFor, has_solver, is_solver, kind_length, named_length, node_length};
+ghost use Rattle.graph_eval.specs.Learned.{AreEmpty, AreNone, FitsFirst, IsKindSet, IsPlainAt, IsSetFor, has_solver, is_solver, kind_length, named_length, node_length, sizes_of};
 
 use crate::fresh::Fresh;
 use crate::learned::{GraphLearned, Learned};
-use crate::shapes::shape_of;
+use crate::shapes::{GraphSize, shape_of, sizes_of};
 use basic_nodes::length_of;
 use graph_file::{Graph, Job, Node, NodeKind, Source, sources_of};
 use ratfun_text::NoMemory;
@@ -77,6 +77,7 @@ fn kind_length(
     alloc: Global,
     kind: &NodeKind,
     set: &[u32],
+    sizes: &[GraphSize],
     inputs: usize,
     earlier: &[u32],
 ) -> Result<Option<usize>, NoMemory>
@@ -84,10 +85,10 @@ fn kind_length(
     requires set { IsKindSet kind.now set.now }
     requires few { inputs ≤ 8 }
     requires within { All (λ n. n ≤ 262144) earlier.now }
-    ensures value { IfOk result (λ own. own ≡ kind_length inputs earlier.now set.now kind.now) }
+    ensures value { IfOk result (λ own. own ≡ kind_length sizes.now inputs earlier.now set.now kind.now) }
     ensures limit { IfOk result (λ own. IfSome own (λ n. n ≤ 262144)) }
 {
-    let shape = shape_of(alloc, kind, set)?;
+    let shape = shape_of(alloc, kind, set, sizes)?;
     let sources = sources_of(alloc, kind)?;
     let lengths = named_lengths(alloc, inputs, earlier, sources.as_slice())?;
     Ok(length_of(&shape, lengths.as_slice()).ok())
@@ -99,6 +100,7 @@ pub(crate) fn node_length(
     alloc: Global,
     node: &Node,
     set: &[u32],
+    sizes: &[GraphSize],
     inputs: usize,
     earlier: &[u32],
     total: usize,
@@ -109,14 +111,14 @@ pub(crate) fn node_length(
     requires within { All (λ n. n ≤ 262144) earlier.now }
     requires total { total ≡ sum earlier.now }
     requires bound { total ≤ 2097152 }
-    ensures value { IfOk result (λ own. own ≡ node_length inputs earlier.now set.now node.now) }
+    ensures value { IfOk result (λ own. own ≡ node_length sizes.now inputs earlier.now set.now node.now) }
     ensures limit { IfOk result (λ own. IfSome own (λ n. n ≤ 262144)) }
     ensures bound { IfOk result (λ own. IfSome own (λ n. total + n ≤ 2097152)) }
 {
     if !node.needed {
         return Ok(Some(0));
     }
-    match kind_length(alloc, &node.kind, set, inputs, earlier)? {
+    match kind_length(alloc, &node.kind, set, sizes, inputs, earlier)? {
         Some(own) if total + own <= ALL_LISTS => Ok(Some(own as u32)),
         _ => Ok(None),
     }
@@ -159,16 +161,16 @@ fn no_plans(alloc: Global, count: usize) -> Result<Items<Option<SparsePlan>>, No
 }
 
 /// The lengths of a graph's lists, none of whose needed nodes is a solver, or the node whose length breaks a rule.
-fn graph_lengths(alloc: Global, graph: &Graph) -> Result<Fresh, NoMemory>
+fn graph_lengths(alloc: Global, graph: &Graph, sizes: &[GraphSize]) -> Result<Fresh, NoMemory>
     requires sound { IsGraph graph.now }
     requires plain { has_solver graph.now ≡ false }
-    ensures { IfOk result (IsMeasured graph.now) }
+    ensures { IfOk result (IsMeasured sizes.now graph.now) }
 {
     let inputs = graph.inputs.len();
     let mut lengths = Vec::new(alloc);
     let mut total = 0;
     for (place, node) in graph.nodes.as_slice().iter().enumerate() {
-        let Some(own) = node_length(alloc, node, &[], inputs, lengths.as_slice(), total)? else {
+        let Some(own) = node_length(alloc, node, &[], sizes, inputs, lengths.as_slice(), total)? else {
             return Ok(Fresh::Length { node: place as u32 });
         };
         lengths.push(own)?;
@@ -191,9 +193,9 @@ pub fn lengths_of(
     requires there { graph < length job.now.graphs }
     requires before { FitsFirst job.now.graphs learned.now graph }
     requires plain { IsPlainAt job.now.graphs graph }
-    ensures { IfOk result (IsMeasuredAt job.now.graphs graph) }
+    ensures { IfOk result (IsMeasuredAt job.now.graphs learned.now graph) }
 {
-    // No kind of node rests on another graph, so what was learned of earlier ones isn't read.
-    let _earlier = learned;
-    Ok(graph_lengths(alloc, &job.graphs.as_slice()[graph as usize])?)
+    let graphs = job.graphs.as_slice();
+    let sizes = sizes_of(alloc, graphs, learned.all())?;
+    graph_lengths(alloc, &graphs[graph as usize], sizes.as_slice())
 }

@@ -5,12 +5,14 @@
 //! main graph's output at one point after another, in one block of [`words_needed`] words that is taken when it is made.
 #![tactic(auto)]
 
+mod calls;
 mod evaluation;
 mod fresh;
 mod kinds;
 mod laws;
 mod learned;
 mod lengths;
+mod memos;
 mod needs;
 mod outcome;
 mod own;

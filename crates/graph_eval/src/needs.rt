@@ -1,10 +1,11 @@
 //! How many words the evaluation of a graph needs, and where its lists stand.
 
-ghost use Rattle.std.specs.Prelude.{◌≡◌, ◌≤◌, IfOk, length, sum};
+ghost use Rattle.std.specs.Prelude.{◌≡◌, ◌≤◌, IfOk, List, length, sum};
 ghost use Rattle.graph_file.specs.Sound.{IsGraph};
 ghost use Rattle.graph_eval.specs.Learned.{AreGraphs, Fits, FitsGraph};
 ghost use Rattle.graph_eval.specs.Needs.{AreTables, graph_words, kept_words, words_needed};
 ghost use Rattle.graph_eval.specs.Reading.{places_of};
+ghost use Rattle.graph_eval.specs.declared.shapes.GraphSize.{GraphSize};
 
 use crate::learned::{GraphLearned, Learned};
 use crate::systems::greatest_work;
@@ -30,7 +31,7 @@ fn total_of(lengths: &[u32]) -> usize
 /// How many words a graph needs for its inputs, for the lists of its needed nodes, and for the work of one of these.
 fn graph_words(graph: &Graph, learned: &GraphLearned) -> usize
     requires sound { IsGraph graph.now }
-    requires fits { FitsGraph graph.now learned.now }
+    requires fits { (sizes : List GraphSize) × FitsGraph sizes graph.now learned.now }
     ensures { result ≡ graph_words graph.now learned.now }
 {
     graph.inputs.len() + total_of(learned.lengths.as_slice()) + greatest_work(graph)

@@ -1,6 +1,6 @@
 //! What a node learns on the lists before it.
 
-ghost use Rattle.std.specs.Prelude.{◌≡◌, ◌+◌, ◌-◌, ◌*◌, ◌≤◌, ◌<◌, All, IfErr, IfOk, IsTrue, None, OnErr, OnOk, Some, [], false, length, slice_index, true};
+ghost use Rattle.std.specs.Prelude.{◌≡◌, ◌+◌, ◌-◌, ◌*◌, ◌≤◌, ◌<◌, All, IfErr, IfOk, IsTrue, List, None, OnErr, OnOk, Some, [], false, length, slice_index, true};
 ghost use Rattle.prime_field.specs.Modulus.{value_of};
 ghost use Rattle.prime_field.specs.Residue.{IsPrime};
 ghost use Rattle.elim_core.specs.Kept.{HasSolution};
@@ -15,6 +15,7 @@ ghost use Rattle.graph_eval.specs.Learned.{HasOwnLength, IsSetFor, plan_of, plan
 ghost use Rattle.graph_eval.specs.Reading.{IsThere, placed};
 ghost use Rattle.graph_eval.specs.Stacked.{IsAdded};
 ghost use Rattle.graph_eval.specs.Systems.{rows_in, words_of};
+ghost use Rattle.graph_eval.specs.declared.shapes.GraphSize.{GraphSize};
 
 use crate::evaluation::write_list;
 use crate::kinds::placed;
@@ -202,7 +203,7 @@ pub(crate) fn push_own(
     requires plan { HasPlanOrFails (value_of m) (placed words.old.items places.now) node.now own.now }
     requires work { IsTrue node.now.needed → words_of node.now.kind ≤ length work.old }
     requires residues { All (λ x. x < value_of m) words.old.items }
-    requires room { HasOwnLength (placed words.old.items places.now) own.now.set node.now count }
+    requires room { (sizes : List GraphSize) × HasOwnLength sizes (placed words.old.items places.now) own.now.set node.now count }
     ensures ok { IfOk result (λ answer. OnOk answer (IsAdded (value_of m) no_graphs own.now.set (placed words.old.items places.now) node.now count words.old.items words.new.items)) }
     ensures err { IfOk result (λ answer. IfErr answer (λ cause. IsPrime (value_of m) → NodeFails (value_of m) no_graphs own.now.set (placed words.old.items places.now) node.now cause)) }
     ensures needed { IfOk result (λ answer. OnErr answer (IsTrue node.now.needed)) }

@@ -1,17 +1,44 @@
 //! What the length of a node's list depends on.
 
-ghost use Rattle.std.specs.Prelude.{◌≡◌, ◌≤◌, IfOk, map};
+ghost use Rattle.std.specs.Prelude.{◌≡◌, ◌≤◌, IfOk, length, map};
 ghost use Rattle.elim_core.specs.Sparse.{entries_of};
 ghost use Rattle.ratfun_text.specs.Value.{greatest};
-ghost use Rattle.graph_eval.specs.Learned.{greatest_among, shape_of};
+ghost use Rattle.graph_eval.specs.Learned.{greatest_among, shape_of, sizes_of};
 ghost use Rattle.graph_eval.specs.Systems.{HasFewEntries};
 
+use crate::learned::GraphLearned;
 use basic_nodes::NodeShape;
 use elim_core::SparseRow;
-use graph_file::{NodeKind, Source};
+use graph_file::{Graph, NodeKind, Source};
 use ratfun_text::{Expr, NoMemory};
 use sqlite_items::Items;
 use std::alloc::Global;
+
+/// How many inputs a graph has, and how many entries its output has.
+#[derive(Clone, Copy, Debug)]
+pub(crate) struct GraphSize {
+    pub(crate) inputs: usize,
+    pub(crate) outputs: usize,
+}
+
+/// The sizes of the first graphs of a file, of which this was learned.
+pub(crate) fn sizes_of(
+    alloc: Global,
+    graphs: &[Graph],
+    learned: &[GraphLearned],
+) -> Result<Vec<GraphSize>, NoMemory>
+    requires { length learned.now ≤ length graphs.now }
+    ensures { IfOk result (λ sizes. sizes.items ≡ sizes_of graphs.now learned.now) }
+{
+    let mut sizes = Vec::new(alloc);
+    for (number, entry) in learned.iter().enumerate() {
+        sizes.push(GraphSize {
+            inputs: graphs[number].inputs.len(),
+            outputs: entry.output as usize,
+        })?;
+    }
+    Ok(sizes)
+}
 
 /// The greatest position that an expression among these uses, 0 where none uses any.
 fn greatest_among(exprs: &[Expr]) -> u32
@@ -46,10 +73,16 @@ pub(crate) fn entries_of(rows: &[SparseRow]) -> usize
     count
 }
 
-/// The kind of a node with the numbers that its length depends on, where this set was learned for it.
-pub(crate) fn shape_of(alloc: Global, kind: &NodeKind, set: &[u32]) -> Result<NodeShape, NoMemory>
+/// The kind of a node with the numbers that its length depends on, where this set was learned for it, and the graphs before
+/// its own have these sizes.
+pub(crate) fn shape_of(
+    alloc: Global,
+    kind: &NodeKind,
+    set: &[u32],
+    _sizes: &[GraphSize],
+) -> Result<NodeShape, NoMemory>
     requires { HasFewEntries kind.now }
-    ensures { IfOk result (λ shape. shape ≡ shape_of set.now kind.now) }
+    ensures { IfOk result (λ shape. shape ≡ shape_of _sizes.now set.now kind.now) }
 {
     Ok(match kind {
         NodeKind::Eval { exprs, .. } => NodeShape::Eval {

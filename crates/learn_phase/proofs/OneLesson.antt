@@ -9,7 +9,8 @@ use Rattle.graph_eval.specs.declared.fresh.Fresh.TheVariants as fresh
 use Rattle.graph_eval.specs.declared.learned.GraphLearned.{GraphLearned}
 use Rattle.graph_eval.specs.declared.outcome.Singular.{Singular}
 use Rattle.graph_eval.specs.Fresh.{IsFreshAt}
-use Rattle.graph_eval.specs.Learned.{FailsLength, FitsGraph, has_solver, outputs_of, sets_of}
+use Rattle.graph_eval.specs.declared.shapes.GraphSize.{GraphSize}
+use Rattle.graph_eval.specs.Learned.{FailsLength, FitsGraph, has_solver, outputs_of, sizes_of}
 use Rattle.learn_phase.specs.LearnedSets.{AllSingular, AnswersAt, AnswersFirst, AreSingular, BreaksLength, BreaksRule, Broken, FirstLearn, GivesBehind, GraphLesson, Learns, LearnsAtPoints, LearnsByRules, LearnsGraph, LearnsUnder, Lesson, NoPoint, Place, Taught, learning_modulus, output_node}
 use Rattle.learn_phase.specs.Points.{learning_point}
 use Rattle.graph_eval.proofs.OneLength.{learned_same}
@@ -19,13 +20,13 @@ use Rattle.learn_phase.proofs.Taking.{behind}
 
 -- the laws of the definitions below that of a lesson
 pub record Laws : Type 0 where
-  pub one_fresh : (m : ℕ) (graphs : List Graph) (learned : List (List (List ℕ))) (number : ℕ) (inputs : List ℕ) (a b : Fresh) → 1 < m → IsFreshAt m graphs learned number inputs a → IsFreshAt m graphs learned number inputs b → a ≡ b
-  pub lengths : (graph : Graph) (a b : GraphLearned) → a.sets ≡ b.sets → FitsGraph graph a → FitsGraph graph b → a.lengths ≡ b.lengths
-  pub output : (graph : Graph) (a b : GraphLearned) → a.sets ≡ b.sets → FitsGraph graph a → FitsGraph graph b → a.output ≡ b.output
-  pub plans : (graph : Graph) (a b : GraphLearned) → a.sets ≡ b.sets → FitsGraph graph a → FitsGraph graph b → a.plans ≡ b.plans
-  pub sets : (graph : Graph) (a b : GraphLearned) → has_solver graph ≡ false → FitsGraph graph a → FitsGraph graph b → a.sets ≡ b.sets
-  pub either : (graph : Graph) (a : GraphLearned) (n : ℕ) → has_solver graph ≡ false → FitsGraph graph a → FailsLength graph n → ⊥
-  pub node : (graph : Graph) (n k : ℕ) → FailsLength graph n → FailsLength graph k → n ≡ k
+  pub one_fresh : (m : ℕ) (graphs : List Graph) (learned : List GraphLearned) (number : ℕ) (inputs : List ℕ) (a b : Fresh) → 1 < m → IsFreshAt m graphs learned number inputs a → IsFreshAt m graphs learned number inputs b → a ≡ b
+  pub lengths : (sizes : List GraphSize) (graph : Graph) (a b : GraphLearned) → a.sets ≡ b.sets → FitsGraph sizes graph a → FitsGraph sizes graph b → a.lengths ≡ b.lengths
+  pub output : (sizes : List GraphSize) (graph : Graph) (a b : GraphLearned) → a.sets ≡ b.sets → FitsGraph sizes graph a → FitsGraph sizes graph b → a.output ≡ b.output
+  pub plans : (sizes : List GraphSize) (graph : Graph) (a b : GraphLearned) → a.sets ≡ b.sets → FitsGraph sizes graph a → FitsGraph sizes graph b → a.plans ≡ b.plans
+  pub sets : (sizes : List GraphSize) (graph : Graph) (a b : GraphLearned) → has_solver graph ≡ false → FitsGraph sizes graph a → FitsGraph sizes graph b → a.sets ≡ b.sets
+  pub either : (sizes : List GraphSize) (graph : Graph) (a : GraphLearned) (n : ℕ) → has_solver graph ≡ false → FitsGraph sizes graph a → FailsLength sizes graph n → ⊥
+  pub node : (sizes : List GraphSize) (graph : Graph) (n k : ℕ) → FailsLength sizes graph n → FailsLength sizes graph k → n ≡ k
 
 -- the answer isn't that a node has no value
 IsLast : Fresh → Type 0
@@ -34,7 +35,7 @@ IsLast answer = (singular : Singular) → answer ≡ fresh.Singular singular →
 module _ (laws : Laws) (place : Place) (graph : Graph) (is : slice_get place.graphs place.number ≡ Some graph) where
   answer_once : (q : ℕ) (a b : Fresh) → AnswersAt place graph q a → AnswersAt place graph q b → a ≡ b
   answer_once q a b first second =
-      laws.one_fresh learning_modulus place.graphs (sets_of place.learned) place.number (learning_point (length graph.inputs) q) a b (lit< tt) (graph, is, first) (graph, is, second)
+      laws.one_fresh learning_modulus place.graphs place.learned place.number (learning_point (length graph.inputs) q) a b (lit< tt) (graph, is, first) (graph, is, second)
 
   -- what a graph answers at a point where it has no value is that
   singular_there : (first : List Singular) (q : ℕ) (answer : Fresh) → AreSingular place graph first → q < length first → AnswersAt place graph q answer → IsLast answer → ⊥
@@ -89,18 +90,18 @@ module _ (laws : Laws) (place : Place) (graph : Graph) (is : slice_get place.gra
       let told : fresh.Length n ≡ fresh.Length k = same.1 in
       let node : n ≡ k = cc in ap Broken node
 
-  by_rules_once : (a b : GraphLesson) → has_solver graph ≡ false → LearnsByRules graph a → LearnsByRules graph b → a ≡ b
+  by_rules_once : (a b : GraphLesson) → has_solver graph ≡ false → LearnsByRules place graph a → LearnsByRules place graph b → a ≡ b
   by_rules_once (Taught x) (Taught y) plain first second =
-      let sets = laws.sets graph x y plain first.1 second.1 in
-      ap Taught (learned_same x y (first.0 ∙ sym second.0) (laws.output graph x y sets first.1 second.1) (laws.lengths graph x y sets first.1 second.1) sets (laws.plans graph x y sets first.1 second.1))
+      let sets = laws.sets (sizes_of place.graphs place.learned) graph x y plain first.1 second.1 in
+      ap Taught (learned_same x y (first.0 ∙ sym second.0) (laws.output (sizes_of place.graphs place.learned) graph x y sets first.1 second.1) (laws.lengths (sizes_of place.graphs place.learned) graph x y sets first.1 second.1) sets (laws.plans (sizes_of place.graphs place.learned) graph x y sets first.1 second.1))
   by_rules_once (Taught x) (AllSingular ys) plain first second = absurd second
-  by_rules_once (Taught x) (Broken n) plain first second = absurd (laws.either graph x n plain first.1 second)
+  by_rules_once (Taught x) (Broken n) plain first second = absurd (laws.either (sizes_of place.graphs place.learned) graph x n plain first.1 second)
   by_rules_once (AllSingular xs) b plain first second = absurd first
-  by_rules_once (Broken n) (Taught y) plain first second = absurd (laws.either graph y n plain second.1 first)
+  by_rules_once (Broken n) (Taught y) plain first second = absurd (laws.either (sizes_of place.graphs place.learned) graph y n plain second.1 first)
   by_rules_once (Broken n) (AllSingular ys) plain first second = absurd second
-  by_rules_once (Broken n) (Broken k) plain first second = ap Broken (laws.node graph n k first second)
+  by_rules_once (Broken n) (Broken k) plain first second = ap Broken (laws.node (sizes_of place.graphs place.learned) graph n k first second)
 
-  by_kind : (a b : GraphLesson) (solver : Bool) → has_solver graph ≡ solver → MatchBool solver (LearnsAtPoints place graph a) (LearnsByRules graph a) → MatchBool solver (LearnsAtPoints place graph b) (LearnsByRules graph b) → a ≡ b
+  by_kind : (a b : GraphLesson) (solver : Bool) → has_solver graph ≡ solver → MatchBool solver (LearnsAtPoints place graph a) (LearnsByRules place graph a) → MatchBool solver (LearnsAtPoints place graph b) (LearnsByRules place graph b) → a ≡ b
   by_kind a b true kind first second = by_points_once a b first second
   by_kind a b false kind first second = by_rules_once a b kind first second
 

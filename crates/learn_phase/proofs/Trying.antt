@@ -12,7 +12,7 @@ use Rattle.graph_eval.specs.declared.learned.GraphLearned.{GraphLearned}
 use Rattle.graph_eval.specs.Evaluated.{HasInputs, IsNeededNode}
 use Rattle.graph_eval.specs.Fresh.{FitsFresh, FitsFreshAt, IsFresh, IsFreshAt}
 use Rattle.graph_eval.specs.GraphValue.{meanings}
-use Rattle.graph_eval.specs.Learned.{has_solver, sets_of}
+use Rattle.graph_eval.specs.Learned.{has_solver, sets_of, sizes_of}
 use Rattle.graph_eval.proofs.Places.{stands}
 use Rattle.learn_phase.specs.declared.error.LearnError.{LearnError}
 use Rattle.learn_phase.specs.declared.error.LearnError.TheVariants as error
@@ -40,16 +40,16 @@ has_inputs graphs number variables q point below counted same =
 
 -- what a graph answers at a learning point
 pub answers_at : (place : Place) (graph : Graph) (variables q : ℕ) (point : List ℕ) (given answer : Fresh) → slice_get place.graphs place.number ≡ Some graph → variables ≡ length graph.inputs → point ≡ learning_point variables q → given ≡ answer
-    → IsFreshAt learning_modulus place.graphs (sets_of place.learned) place.number point given → AnswersAt place graph q answer
+    → IsFreshAt learning_modulus place.graphs place.learned place.number point given → AnswersAt place graph q answer
 answers_at place graph variables q point given answer is counted same told fresh =
     let called = meanings learning_modulus place.graphs (sets_of place.learned) place.number in
-    let here = subst (λ (g : Graph). IsFresh learning_modulus called g point given) (one_graph place.graphs place.number fresh.0 graph fresh.1 is) fresh.2 in
-    subst (λ (p : List ℕ). IsFresh learning_modulus called graph p answer) (same ∙ ap (λ n. learning_point n q) counted) (subst (λ (a : Fresh). IsFresh learning_modulus called graph point a) told here)
+    let here = subst (λ (g : Graph). IsFresh learning_modulus called (sizes_of place.graphs place.learned) g point given) (one_graph place.graphs place.number fresh.0 graph fresh.1 is) fresh.2 in
+    subst (λ (p : List ℕ). IsFresh learning_modulus called (sizes_of place.graphs place.learned) graph p answer) (same ∙ ap (λ n. learning_point n q) counted) (subst (λ (a : Fresh). IsFresh learning_modulus called (sizes_of place.graphs place.learned) graph point a) told here)
 
 -- a node without a value is needed
-pub needed_at : (place : Place) (graph : Graph) (given : Fresh) (singular : Singular) → slice_get place.graphs place.number ≡ Some graph → given ≡ fresh.Singular singular → FitsFreshAt place.graphs place.number given → IsNeededNode graph singular.node
+pub needed_at : (place : Place) (graph : Graph) (given : Fresh) (singular : Singular) → slice_get place.graphs place.number ≡ Some graph → given ≡ fresh.Singular singular → FitsFreshAt place.graphs place.learned place.number given → IsNeededNode graph singular.node
 needed_at place graph given singular is told fits =
-    subst (λ (g : Graph). IsNeededNode g singular.node) (one_graph place.graphs place.number fits.0 graph fits.1 is) (subst (λ (a : Fresh). FitsFresh fits.0 a) told fits.2)
+    subst (λ (g : Graph). IsNeededNode g singular.node) (one_graph place.graphs place.number fits.0 graph fits.1 is) (subst (λ (a : Fresh). FitsFresh (sizes_of place.graphs place.learned) fits.0 a) told fits.2)
 
 -- one more point without a value
 pub HasTried-more : (place : Place) (graph : Graph) (q : ℕ) (first : List Singular) (singular : Singular) → q < length first → HasTried place graph q first
@@ -62,7 +62,7 @@ HasTried-more place graph q first singular below tried here needed = record {
 
 -- a graph with a solver learns as it does at its points
 by_points : (place : Place) (graph : Graph) (lesson : GraphLesson) → has_solver graph ≡ true → LearnsAtPoints place graph lesson → LearnsGraph place graph lesson
-by_points place graph lesson solver learns = subst (λ b. MatchBool b (LearnsAtPoints place graph lesson) (LearnsByRules graph lesson)) (sym solver) learns
+by_points place graph lesson solver learns = subst (λ b. MatchBool b (LearnsAtPoints place graph lesson) (LearnsByRules place graph lesson)) (sym solver) learns
 
 answers_first : (place : Place) (graph : Graph) (q : ℕ) (first : List Singular) (answer : Fresh) → q < 8 → length first ≡ 8 → HasTried place graph q first → IsPrime learning_modulus → AnswersAt place graph q answer → AnswersFirst place graph q answer
 answers_first place graph q first answer below long tried prime here = record { within = below; first = take q first; many = length-take-le q first (omega (arith, long)); singular = tried.singular prime; here = here }

@@ -7,7 +7,7 @@ use Rattle.graph_eval.specs.declared.fresh.Fresh.TheVariants as fresh
 use Rattle.graph_eval.specs.declared.learned.GraphLearned.{GraphLearned}
 use Rattle.graph_eval.specs.declared.outcome.Singular.{Singular}
 use Rattle.graph_eval.specs.Evaluated.{IsNeededNode}
-use Rattle.graph_eval.specs.Learned.{Fits, FitsGraph, outputs_of}
+use Rattle.graph_eval.specs.Learned.{Fits, FitsGraph, outputs_of, sizes_of}
 use Rattle.learn_phase.specs.declared.error.LearnError.{LearnError}
 use Rattle.learn_phase.specs.declared.error.LearnError.TheVariants as error
 use Rattle.learn_phase.specs.LearnedSets.{AnswersAt, Taught, AllSingular, Broken, Place, LearnsGraph, Learns, NoPoint, BreaksLength, LearnedSets, MeetsNeed}
@@ -38,17 +38,17 @@ Tells need form (Err error.NoMemory) = ⊤
 abbrev pub AreNeeded : Graph → List Singular → Type 0
 AreNeeded graph first = (q : ℕ) (singular : Singular) → slice_get first q ≡ Some singular → IsNeededNode graph singular.node
 
--- whatever the modulus: what was learned at a point fits the graph with this number, and a node that has no value is needed
-abbrev pub FitsPoint : ℕ → Graph → Result (Result GraphLearned Singular) LearnError → Type 0
-FitsPoint number graph (Ok (Ok entry)) = FitsGraph graph entry
-FitsPoint number graph (Ok (Err singular)) = IsNeededNode graph singular.node
-FitsPoint number graph (Err (error.NoLearningPoint told first)) = ⊥
-FitsPoint number graph (Err (error.Length told node)) = told ≡ number
-FitsPoint number graph (Err error.NoMemory) = ⊤
+-- whatever the modulus: what was learned at a point fits the graph at this place, and a node that has no value is needed
+abbrev pub FitsPoint : Place → Graph → Result (Result GraphLearned Singular) LearnError → Type 0
+FitsPoint place graph (Ok (Ok entry)) = FitsGraph (sizes_of place.graphs place.learned) graph entry
+FitsPoint place graph (Ok (Err singular)) = IsNeededNode graph singular.node
+FitsPoint place graph (Err (error.NoLearningPoint told first)) = ⊥
+FitsPoint place graph (Err (error.Length told node)) = told ≡ place.number
+FitsPoint place graph (Err error.NoMemory) = ⊤
 
 -- whatever the modulus: what was learned fits the graph, and nodes that have no value are needed
 abbrev pub FitsAnswer : Place → Graph → Result GraphLearned LearnError → Type 0
-FitsAnswer place graph (Ok entry) = FitsGraph graph entry
+FitsAnswer place graph (Ok entry) = FitsGraph (sizes_of place.graphs place.learned) graph entry
 FitsAnswer place graph (Err (error.NoLearningPoint number first)) = (number ≡ place.number) × AreNeeded graph first
 FitsAnswer place graph (Err (error.Length number node)) = number ≡ place.number
 FitsAnswer place graph (Err error.NoMemory) = ⊤

@@ -16,7 +16,7 @@ use Rattle.graph_eval.specs.declared.learned.GraphLearned.{GraphLearned}
 use Rattle.graph_eval.specs.declared.outcome.Singular.{Singular}
 use Rattle.graph_eval.specs.Fresh.{IsFresh, IsMeasured}
 use Rattle.graph_eval.specs.GraphValue.{main_number, meanings}
-use Rattle.graph_eval.specs.Learned.{has_solver, outputs_of, sets_of}
+use Rattle.graph_eval.specs.Learned.{has_solver, outputs_of, sets_of, sizes_of}
 use Rattle.learn_phase.specs.Points.{learning_point}
 
 -- What learning one graph gives: what was learned; at each of its eight learning points the first node, which has no
@@ -38,7 +38,7 @@ learning_modulus = value_of First
 
 -- what the graph answers at its learning point q
 abbrev pub AnswersAt : Place → Graph → ℕ → Fresh → Type 0
-AnswersAt place graph q answer = IsFresh learning_modulus (meanings learning_modulus place.graphs (sets_of place.learned) place.number) graph (learning_point (length graph.inputs) q) answer
+AnswersAt place graph q answer = IsFresh learning_modulus (meanings learning_modulus place.graphs (sets_of place.learned) place.number) (sizes_of place.graphs place.learned) graph (learning_point (length graph.inputs) q) answer
 
 -- the graph has no value at its first learning points, where these nodes are the first that fail
 abbrev pub AreSingular : Place → Graph → List Singular → Type 0
@@ -60,13 +60,13 @@ LearnsAtPoints place graph (AllSingular first) = (length first ≡ 8) × AreSing
 LearnsAtPoints place graph (Broken node) = (q : ℕ) × AnswersFirst place graph q (fresh.Length node)
 
 -- what a graph without a solver gives, which is learned by the rules on lengths alone
-abbrev pub LearnsByRules : Graph → GraphLesson → Type 0
-LearnsByRules graph (Taught entry) = IsMeasured graph (fresh.Learned entry)
-LearnsByRules graph (AllSingular first) = ⊥
-LearnsByRules graph (Broken node) = IsMeasured graph (fresh.Length node)
+abbrev pub LearnsByRules : Place → Graph → GraphLesson → Type 0
+LearnsByRules place graph (Taught entry) = IsMeasured (sizes_of place.graphs place.learned) graph (fresh.Learned entry)
+LearnsByRules place graph (AllSingular first) = ⊥
+LearnsByRules place graph (Broken node) = IsMeasured (sizes_of place.graphs place.learned) graph (fresh.Length node)
 
 abbrev pub LearnsGraph : Place → Graph → GraphLesson → Type 0
-LearnsGraph place graph lesson = MatchBool (has_solver graph) (LearnsAtPoints place graph lesson) (LearnsByRules graph lesson)
+LearnsGraph place graph lesson = MatchBool (has_solver graph) (LearnsAtPoints place graph lesson) (LearnsByRules place graph lesson)
 
 -- the first so many graphs of a file, in order: each was learned over those before it
 pub record FirstLearn (graphs : List Graph) (learned : List GraphLearned) (count : ℕ) : Type 0 where

@@ -38,7 +38,7 @@ fn learn_at(
     requires before { FitsFirst job.now.graphs learned.now graph }
     requires numbered { q < 8 }
     ensures told { (this : GraphOf) → slice_get job.now.graphs graph ≡ Some this → IsPrime learning_modulus → TellsPoint (record { graphs = job.now.graphs; learned = learned.now; number = graph }) this q result }
-    ensures fits { (this : GraphOf) → slice_get job.now.graphs graph ≡ Some this → FitsPoint graph this result }
+    ensures fits { (this : GraphOf) → slice_get job.now.graphs graph ≡ Some this → FitsPoint (record { graphs = job.now.graphs; learned = learned.now; number = graph }) this result }
 {
     let point = learning_point(variables_of(job, graph), q);
     match fresh_point(alloc, job, learned, graph, Modulus::First, &point)? {

@@ -8,7 +8,7 @@ pub push_lesson-requires : goal.push_lesson-requires
 push_lesson-requires c =
     let graphs = c.args.job.now.graphs in
     let place = c.loop-place.place in
-    c.requires.each place c.graph-item.result c.graph.result.now (read_at c.as_slice-graph-items.result.now graphs place c.graph-item.result c.as_slice-graph-items.ensures c.loop-place-test.true c.graph-item.is) c.graph.ensures
+    (c.requires.each place c.graph-item.result c.graph.result.now (read_at c.as_slice-graph-items.result.now graphs place c.graph-item.result c.as_slice-graph-items.ensures c.loop-place-test.true c.graph-item.is) c.graph.ensures).many
 
 pub loop-place-preserved : goal.loop-place-preserved
 loop-place-preserved c =

@@ -6,7 +6,7 @@ use Rattle.prime_field.specs.Modulus.{value_of}
 use Rattle.graph_file.specs.declared.graph.Source.{Source}
 use Rattle.graph_eval.specs.Evaluated.{IsNeededAt, no_graphs}
 use Rattle.graph_eval.specs.GraphValue.{NodeFails, SingularAt, meanings}
-use Rattle.graph_eval.specs.Learned.{FitsNode, sets_of}
+use Rattle.graph_eval.specs.Learned.{FitsNode, sets_of, sizes_of}
 use Rattle.graph_eval.specs.Reading.{AreListed, placed, places_of}
 use Rattle.graph_eval.specs.Stacked.{IsAdded}
 use Rattle.graph_eval.proofs.EvaluationLaws.{graph_value}
@@ -32,7 +32,7 @@ push_node-requires-clause-fits c =
     let node = c.node-item.result in
     let place = c.loop-place.place in
     let node_is = read_at c.as_slice-node-items.result.now graph.nodes place node c.as_slice-node-items.ensures c.loop-place-test.true c.node-item.is in
-    subst (λ (n : ℕ). FitsNode n entry place node) (sym first) (fits_node graph entry place node sound fits node_is)
+    (sizes_of graphs (take c.args.number learned), subst (λ (n : ℕ). FitsNode (sizes_of graphs (take c.args.number learned)) n entry place node) (sym first) (fits_node (sizes_of graphs (take c.args.number learned)) graph entry place node sound fits node_is))
 
 pub push_node-requires-clause-places : goal.push_node-requires-clause-places
 push_node-requires-clause-places c =
@@ -132,7 +132,7 @@ push_node-requires-clause-room c =
     let node_is = read_at c.as_slice-node-items.result.now graph.nodes place node c.as_slice-node-items.ensures c.loop-place-test.true c.node-item.is in
     let old = c.args.stack.now in
     let last = c.loop-place.stack in
-    node_room m graphs learned c.args.number c.args.base graph entry old is entry_is c.requires.ready last places place sound fits places_are c.loop-place.invariant.stands node node_is c.loop-place.invariant.size
+    node_room m graphs learned c.args.number c.args.base graph entry old is entry_is c.requires.ready (sizes_of graphs (take c.args.number learned)) last places place sound fits places_are c.loop-place.invariant.stands node node_is c.loop-place.invariant.size
 
 pub loop-place-init : goal.loop-place-init
 loop-place-init c =
@@ -167,12 +167,12 @@ loop-place-preserved c =
     let last = c.loop-place.stack in
     let below = ready_below m graphs learned c.args.number c.args.base graph entry old is entry_is c.requires.ready in
     let inputs = ready_inputs m graphs learned c.args.number c.args.base graph entry old is entry_is c.requires.ready in
-    let cut = cut_places (length graph.inputs) place entry places places_are (fits_node graph entry place node sound fits node_is) in
+    let cut = cut_places (length graph.inputs) place entry places places_are (fits_node (sizes_of graphs (take c.args.number learned)) graph entry place node sound fits node_is) in
     let added = subst (λ (list : Source → List ℕ). IsAdded m no_graphs (slice_index_or entry.sets place []) list node (slice_index entry.lengths place) last.words c.push_node.new.stack.words) (ap (placed (drop c.args.base last.words)) cut) c.in_default.ensures.ok in
     record {
       size = c.push_node.ensures.size ∙ c.loop-place.invariant.size;
       kept = c.push_node.ensures.kept ∙ c.loop-place.invariant.kept;
-      stands = stands_more m called graph entry (take c.args.base old.words) (drop c.args.base old.words) last.words place c.args.base (length graph.inputs) c.loop-place.invariant.stands below inputs node c.push_node.new.stack.words node_is (fits_node graph entry place node sound fits node_is).many_lengths added;
+      stands = stands_more m called graph entry (take c.args.base old.words) (drop c.args.base old.words) last.words place c.args.base (length graph.inputs) c.loop-place.invariant.stands below inputs node c.push_node.new.stack.words node_is (fits_node (sizes_of graphs (take c.args.number learned)) graph entry place node sound fits node_is).many_lengths added;
     }
 
 pub overflow_cast-result : goal.overflow_cast-result
@@ -205,7 +205,7 @@ returns-in-Err-clause-err c =
     let last = c.loop-place.stack in
     let below = ready_below m graphs learned c.args.number c.args.base graph entry old is entry_is c.requires.ready in
     let inputs = ready_inputs m graphs learned c.args.number c.args.base graph entry old is entry_is c.requires.ready in
-    let cut = cut_places (length graph.inputs) place entry places places_are (fits_node graph entry place node sound fits node_is) in
+    let cut = cut_places (length graph.inputs) place entry places places_are (fits_node (sizes_of graphs (take c.args.number learned)) graph entry place node sound fits node_is) in
     λ prime. graph_value m graphs learned c.args.number graph entry (drop c.args.base old.words) (SingularAt place c.in-Err.cause) is entry_is
     (stands_stop m called graph entry (take c.args.base old.words) (drop c.args.base old.words) last.words place c.args.base (length graph.inputs) c.loop-place.invariant.stands below inputs node c.in-Err.cause node_is
     (λ prime. subst (λ (list : Source → List ℕ). NodeFails m no_graphs (slice_index_or entry.sets place []) list node c.in-Err.cause) (ap (placed (drop c.args.base last.words)) cut) (c.in-Err.ensures.err prime)) prime)
@@ -238,7 +238,7 @@ run_of-start-requires c =
     let old = c.args.stack.now in
     let last = c.loop-place.stack in
     let all : c.loop-place.place ≡ length graph.nodes = omega (arith, c.loop-place-test.false, c.loop-place.auto.place-end, ap length c.as_slice-node-items.ensures) in
-    run_placed (drop c.args.base last.words) places graph.output (output_stands m graphs learned c.args.number c.args.base graph entry old is entry_is c.requires.ready last places place sound fits places_are c.loop-place.invariant.stands all)
+    run_placed (drop c.args.base last.words) places graph.output (output_stands m graphs learned c.args.number c.args.base graph entry old is entry_is c.requires.ready (sizes_of graphs (take c.args.number learned)) last places place sound fits places_are c.loop-place.invariant.stands all)
 
 pub overflow_add-base : goal.overflow_add-base
 overflow_add-base c =
@@ -263,7 +263,7 @@ overflow_add-base c =
     let inputs = ready_inputs m graphs learned c.args.number c.args.base graph entry old is entry_is c.requires.ready in
     let end = stands_end m called graph entry (take c.args.base old.words) (drop c.args.base old.words) last.words place c.args.base (length graph.inputs) c.loop-place.invariant.stands below inputs in
     let base_within : c.args.base ≤ length last.words = omega (arith, end) in
-    let there = run_there (drop c.args.base last.words) places graph.output (output_stands m graphs learned c.args.number c.args.base graph entry old is entry_is c.requires.ready last places place sound fits places_are c.loop-place.invariant.stands all) in
+    let there = run_there (drop c.args.base last.words) places graph.output (output_stands m graphs learned c.args.number c.args.base graph entry old is entry_is c.requires.ready (sizes_of graphs (take c.args.number learned)) last places place sound fits places_are c.loop-place.invariant.stands all) in
     omega (arith, there.0, there.1, c.run_of-start.ensures.start, c.run_of-start.ensures.stop, c.len-top.ensures, length-drop c.args.base last.words, base_within)
 
 pub overflow_add-base-2 : goal.overflow_add-base-2
@@ -289,7 +289,7 @@ overflow_add-base-2 c =
     let inputs = ready_inputs m graphs learned c.args.number c.args.base graph entry old is entry_is c.requires.ready in
     let end = stands_end m called graph entry (take c.args.base old.words) (drop c.args.base old.words) last.words place c.args.base (length graph.inputs) c.loop-place.invariant.stands below inputs in
     let base_within : c.args.base ≤ length last.words = omega (arith, end) in
-    let there = run_there (drop c.args.base last.words) places graph.output (output_stands m graphs learned c.args.number c.args.base graph entry old is entry_is c.requires.ready last places place sound fits places_are c.loop-place.invariant.stands all) in
+    let there = run_there (drop c.args.base last.words) places graph.output (output_stands m graphs learned c.args.number c.args.base graph entry old is entry_is c.requires.ready (sizes_of graphs (take c.args.number learned)) last places place sound fits places_are c.loop-place.invariant.stands all) in
     omega (arith, there.0, there.1, c.run_of-start.ensures.start, c.run_of-start.ensures.stop, c.len-top.ensures, length-drop c.args.base last.words, base_within)
 
 pub collapse-requires-clause-order : goal.collapse-requires-clause-order
@@ -315,7 +315,7 @@ collapse-requires-clause-order c =
     let inputs = ready_inputs m graphs learned c.args.number c.args.base graph entry old is entry_is c.requires.ready in
     let end = stands_end m called graph entry (take c.args.base old.words) (drop c.args.base old.words) last.words place c.args.base (length graph.inputs) c.loop-place.invariant.stands below inputs in
     let base_within : c.args.base ≤ length last.words = omega (arith, end) in
-    let there = run_there (drop c.args.base last.words) places graph.output (output_stands m graphs learned c.args.number c.args.base graph entry old is entry_is c.requires.ready last places place sound fits places_are c.loop-place.invariant.stands all) in
+    let there = run_there (drop c.args.base last.words) places graph.output (output_stands m graphs learned c.args.number c.args.base graph entry old is entry_is c.requires.ready (sizes_of graphs (take c.args.number learned)) last places place sound fits places_are c.loop-place.invariant.stands all) in
     omega (arith, there.0, there.1, c.run_of-start.ensures.start, c.run_of-start.ensures.stop, c.len-top.ensures, length-drop c.args.base last.words, base_within)
 
 pub collapse-requires-clause-there : goal.collapse-requires-clause-there
@@ -341,7 +341,7 @@ collapse-requires-clause-there c =
     let inputs = ready_inputs m graphs learned c.args.number c.args.base graph entry old is entry_is c.requires.ready in
     let end = stands_end m called graph entry (take c.args.base old.words) (drop c.args.base old.words) last.words place c.args.base (length graph.inputs) c.loop-place.invariant.stands below inputs in
     let base_within : c.args.base ≤ length last.words = omega (arith, end) in
-    let there = run_there (drop c.args.base last.words) places graph.output (output_stands m graphs learned c.args.number c.args.base graph entry old is entry_is c.requires.ready last places place sound fits places_are c.loop-place.invariant.stands all) in
+    let there = run_there (drop c.args.base last.words) places graph.output (output_stands m graphs learned c.args.number c.args.base graph entry old is entry_is c.requires.ready (sizes_of graphs (take c.args.number learned)) last places place sound fits places_are c.loop-place.invariant.stands all) in
     omega (arith, there.0, there.1, c.run_of-start.ensures.start, c.run_of-start.ensures.stop, c.len-top.ensures, length-drop c.args.base last.words, base_within)
 
 pub returns-clause-ok : goal.returns-clause-ok
@@ -362,4 +362,4 @@ returns-clause-ok c =
     let old = c.args.stack.now in
     let last = c.loop-place.stack in
     let all : c.loop-place.place ≡ length graph.nodes = omega (arith, c.loop-place-test.false, c.loop-place.auto.place-end, ap length c.as_slice-node-items.ensures) in
-    replaced m graphs learned c.args.number c.args.base graph entry old is entry_is c.requires.ready last places place sound fits places_are c.loop-place.invariant.stands all c.collapse.new.self c.run_of-start.result.0 c.run_of-start.result.1 c.run_of-start.ensures.start c.run_of-start.ensures.stop (ap (λ (b : Board). b.words) c.collapse.ensures)
+    replaced m graphs learned c.args.number c.args.base graph entry old is entry_is c.requires.ready (sizes_of graphs (take c.args.number learned)) last places place sound fits places_are c.loop-place.invariant.stands all c.collapse.new.self c.run_of-start.result.0 c.run_of-start.result.1 c.run_of-start.ensures.start c.run_of-start.ensures.stop (ap (λ (b : Board). b.words) c.collapse.ensures)

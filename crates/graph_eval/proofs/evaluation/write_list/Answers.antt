@@ -23,8 +23,8 @@ placed-arguments-requires c = first_there c.args.words.now c.args.places.now c.a
 
 pub write_values-requires-clause-enough : goal.write_values-requires-clause-enough
 write_values-requires-clause-enough c =
-    let has = ap (listed_length (placed c.args.words.now c.args.places.now) c.args.set.now) (sym c.in-Eval.is) ∙ c.requires.room in
-    let enough = eval_enough c.args.words.now c.args.places.now c.args.set.now c.in-Eval.from c.in-Eval.exprs (length c.args.out.now) has in
+    let has = ap (listed_length c.requires.room.0 (placed c.args.words.now c.args.places.now) c.args.set.now) (sym c.in-Eval.is) ∙ c.requires.room.1 in
+    let enough = eval_enough c.requires.room.0 c.args.words.now c.args.places.now c.args.set.now c.in-Eval.from c.in-Eval.exprs (length c.args.out.now) has in
     subst (λ (xs : List ℕ). All (λ expr. greatest expr ≤ length xs) c.as_slice.result.now) (sym c.placed-arguments.ensures)
     (All-same (λ expr. greatest expr ≤ length (placed c.args.words.now c.args.places.now c.in-Eval.from)) _ _ c.as_slice.ensures enough)
 
@@ -40,9 +40,9 @@ returns-in-Eval-clause-err c =
 
 pub write_taken-requires-clause-entries : goal.write_taken-requires-clause-entries
 write_taken-requires-clause-entries c =
-    let has = ap (listed_length (placed c.args.words.now c.args.places.now) c.args.set.now) (sym c.in-Take.is) ∙ c.requires.room in
+    let has = ap (listed_length c.requires.room.0 (placed c.args.words.now c.args.places.now) c.args.set.now) (sym c.in-Take.is) ∙ c.requires.room.1 in
     All-same (IsEntry c.args.words.now c.args.places.now) _ _ c.as_slice-in-Take.ensures
-    (take_entries c.args.words.now c.args.places.now c.args.set.now c.in-Take.parts (length c.args.out.now) has (slice_index c.args.places.now 0) (length c.args.places.now - 1) (subst (IsKind (slice_index c.args.places.now 0) (length c.args.places.now - 1)) c.in-Take.is c.requires.sound) (subst (λ (kind : NodeKind). All (IsThere c.args.words.now c.args.places.now) (sources_of kind)) c.in-Take.is c.requires.there))
+    (take_entries c.requires.room.0 c.args.words.now c.args.places.now c.args.set.now c.in-Take.parts (length c.args.out.now) has (slice_index c.args.places.now 0) (length c.args.places.now - 1) (subst (IsKind (slice_index c.args.places.now 0) (length c.args.places.now - 1)) c.in-Take.is c.requires.sound) (subst (λ (kind : NodeKind). All (IsThere c.args.words.now c.args.places.now) (sources_of kind)) c.in-Take.is c.requires.there))
 
 pub write_chained-requires-clause-there : goal.write_chained-requires-clause-there
 write_chained-requires-clause-there c =
@@ -50,8 +50,8 @@ write_chained-requires-clause-there c =
 
 pub write_chained-requires-clause-room : goal.write_chained-requires-clause-room
 write_chained-requires-clause-room c =
-    let has = ap (listed_length (placed c.args.words.now c.args.places.now) c.args.set.now) (sym c.in-Chain.is) ∙ c.requires.room in
-    chain_room c.args.words.now c.args.places.now c.args.set.now c.in-Chain.parts (length c.args.out.now) has
+    let has = ap (listed_length c.requires.room.0 (placed c.args.words.now c.args.places.now) c.args.set.now) (sym c.in-Chain.is) ∙ c.requires.room.1 in
+    chain_room c.requires.room.0 c.args.words.now c.args.places.now c.args.set.now c.in-Chain.parts (length c.args.out.now) has
     ∙ ap (λ parts. length (chained (map (placed c.args.words.now c.args.places.now) parts))) (sym c.as_slice-in-Chain.ensures)
 
 pub write_sum-requires-clause-there : goal.write_sum-requires-clause-there
@@ -60,8 +60,8 @@ write_sum-requires-clause-there c =
 
 pub write_sum-requires-clause-same : goal.write_sum-requires-clause-same
 write_sum-requires-clause-same c =
-    let has = ap (listed_length (placed c.args.words.now c.args.places.now) c.args.set.now) (sym c.in-Sum.is) ∙ c.requires.room in
-    All-same (HasLength c.args.words.now c.args.places.now (length c.args.out.now)) _ _ c.as_slice-in-Sum.ensures (sum_same c.args.words.now c.args.places.now c.args.set.now c.in-Sum.parts (length c.args.out.now) has)
+    let has = ap (listed_length c.requires.room.0 (placed c.args.words.now c.args.places.now) c.args.set.now) (sym c.in-Sum.is) ∙ c.requires.room.1 in
+    All-same (HasLength c.args.words.now c.args.places.now (length c.args.out.now)) _ _ c.as_slice-in-Sum.ensures (sum_same c.requires.room.0 c.args.words.now c.args.places.now c.args.set.now c.in-Sum.parts (length c.args.out.now) has)
 
 pub write_product-requires-clause-there : goal.write_product-requires-clause-there
 write_product-requires-clause-there c =
@@ -69,8 +69,8 @@ write_product-requires-clause-there c =
 
 pub write_product-requires-clause-same : goal.write_product-requires-clause-same
 write_product-requires-clause-same c =
-    let has = ap (listed_length (placed c.args.words.now c.args.places.now) c.args.set.now) (sym c.in-Product.is) ∙ c.requires.room in
-    All-same (HasLength c.args.words.now c.args.places.now (length c.args.out.now)) _ _ c.as_slice-in-Product.ensures (product_same c.args.words.now c.args.places.now c.args.set.now c.in-Product.parts (length c.args.out.now) has)
+    let has = ap (listed_length c.requires.room.0 (placed c.args.words.now c.args.places.now) c.args.set.now) (sym c.in-Product.is) ∙ c.requires.room.1 in
+    All-same (HasLength c.args.words.now c.args.places.now (length c.args.out.now)) _ _ c.as_slice-in-Product.ensures (product_same c.requires.room.0 c.args.words.now c.args.places.now c.args.set.now c.in-Product.parts (length c.args.out.now) has)
 
 pub placed-list-requires : goal.placed-list-requires
 placed-list-requires c = first_there c.args.words.now c.args.places.now c.args.kind.now c.in-Dense.from [] (ap sources_of c.in-Dense.is) c.requires.there

@@ -26,14 +26,14 @@ learn_node-requires-clause-sound c =
     let place = c.loop-place.place in
     let node = c.node-item.result in
     let is = read_at c.as_slice-node-items.result.now c.args.graph.now.nodes place node c.as_slice-node-items.ensures c.loop-place-test.true c.node-item.is in
-    stands_sound (value_of c.args.m) c.args.graph.now c.args.inputs.now c.loop-place.sets.items c.loop-place.lengths.items c.loop-place.words.items c.loop-place.places.items c.loop-place.place c.loop-place.total c.loop-place.invariant.stands c.as_slice.result.now c.as_slice-before.result.now c.as_slice.ensures.value c.as_slice-before.ensures.value node.kind (c.requires.sound.nodes place node is).kind c.requires.entries
+    stands_sound c.args.sizes.now (value_of c.args.m) c.args.graph.now c.args.inputs.now c.loop-place.sets.items c.loop-place.lengths.items c.loop-place.words.items c.loop-place.places.items c.loop-place.place c.loop-place.total c.loop-place.invariant.stands c.as_slice.result.now c.as_slice-before.result.now c.as_slice.ensures.value c.as_slice-before.ensures.value node.kind (c.requires.sound.nodes place node is).kind c.requires.entries
 
 pub learn_node-requires-clause-there : goal.learn_node-requires-clause-there
 learn_node-requires-clause-there c =
     let place = c.loop-place.place in
     let node = c.node-item.result in
     let is = read_at c.as_slice-node-items.result.now c.args.graph.now.nodes place node c.as_slice-node-items.ensures c.loop-place-test.true c.node-item.is in
-    stands_there (value_of c.args.m) c.args.graph.now c.args.inputs.now c.loop-place.sets.items c.loop-place.lengths.items c.loop-place.words.items c.loop-place.places.items c.loop-place.place c.loop-place.total c.loop-place.invariant.stands c.as_slice.result.now c.as_slice-before.result.now c.as_slice.ensures.value c.as_slice-before.ensures.value node.kind (c.requires.sound.nodes place node is).kind c.requires.entries
+    stands_there c.args.sizes.now (value_of c.args.m) c.args.graph.now c.args.inputs.now c.loop-place.sets.items c.loop-place.lengths.items c.loop-place.words.items c.loop-place.places.items c.loop-place.place c.loop-place.total c.loop-place.invariant.stands c.as_slice.result.now c.as_slice-before.result.now c.as_slice.ensures.value c.as_slice-before.ensures.value node.kind (c.requires.sound.nodes place node is).kind c.requires.entries
 
 pub learn_node-requires-clause-work : goal.learn_node-requires-clause-work
 learn_node-requires-clause-work c =
@@ -43,7 +43,7 @@ learn_node-requires-clause-work c =
     (enough_greatest c.args.graph.now.nodes (length c.loop-place.work) (omega (arith, c.loop-place.auto.work, c.as_mut_slice-work.ensures.len, c.in_ok-work.ensures.len, c.greatest_work.ensures))).each place node is
 
 pub learn_node-requires-clause-residues : goal.learn_node-requires-clause-residues
-learn_node-requires-clause-residues c = stands_low (value_of c.args.m) c.args.graph.now c.args.inputs.now c.loop-place.sets.items c.loop-place.lengths.items c.loop-place.words.items c.loop-place.places.items c.loop-place.place c.loop-place.total c.loop-place.invariant.stands c.as_slice.result.now c.as_slice-before.result.now c.as_slice.ensures.value c.as_slice-before.ensures.value c.requires.residues
+learn_node-requires-clause-residues c = stands_low c.args.sizes.now (value_of c.args.m) c.args.graph.now c.args.inputs.now c.loop-place.sets.items c.loop-place.lengths.items c.loop-place.words.items c.loop-place.places.items c.loop-place.place c.loop-place.total c.loop-place.invariant.stands c.as_slice.result.now c.as_slice-before.result.now c.as_slice.ensures.value c.as_slice-before.ensures.value c.requires.residues
 
 pub node_length-requires-clause-sound : goal.node_length-requires-clause-sound
 node_length-requires-clause-sound c =
@@ -57,14 +57,14 @@ push_own-requires-clause-sound c =
     let place = c.loop-place.place in
     let node = c.node-item.result in
     let is = read_at c.as_slice-node-items.result.now c.args.graph.now.nodes place node c.as_slice-node-items.ensures c.loop-place-test.true c.node-item.is in
-    stands_sound (value_of c.args.m) c.args.graph.now c.args.inputs.now c.loop-place.sets.items c.loop-place.lengths.items c.loop-place.words.items c.loop-place.places.items c.loop-place.place c.loop-place.total c.loop-place.invariant.stands c.loop-place.words.items c.as_slice-before.result.now refl c.as_slice-before.ensures.value node.kind (c.requires.sound.nodes place node is).kind c.requires.entries
+    stands_sound c.args.sizes.now (value_of c.args.m) c.args.graph.now c.args.inputs.now c.loop-place.sets.items c.loop-place.lengths.items c.loop-place.words.items c.loop-place.places.items c.loop-place.place c.loop-place.total c.loop-place.invariant.stands c.loop-place.words.items c.as_slice-before.result.now refl c.as_slice-before.ensures.value node.kind (c.requires.sound.nodes place node is).kind c.requires.entries
 
 pub push_own-requires-clause-there : goal.push_own-requires-clause-there
 push_own-requires-clause-there c =
     let place = c.loop-place.place in
     let node = c.node-item.result in
     let is = read_at c.as_slice-node-items.result.now c.args.graph.now.nodes place node c.as_slice-node-items.ensures c.loop-place-test.true c.node-item.is in
-    stands_there (value_of c.args.m) c.args.graph.now c.args.inputs.now c.loop-place.sets.items c.loop-place.lengths.items c.loop-place.words.items c.loop-place.places.items c.loop-place.place c.loop-place.total c.loop-place.invariant.stands c.loop-place.words.items c.as_slice-before.result.now refl c.as_slice-before.ensures.value node.kind (c.requires.sound.nodes place node is).kind c.requires.entries
+    stands_there c.args.sizes.now (value_of c.args.m) c.args.graph.now c.args.inputs.now c.loop-place.sets.items c.loop-place.lengths.items c.loop-place.words.items c.loop-place.places.items c.loop-place.place c.loop-place.total c.loop-place.invariant.stands c.loop-place.words.items c.as_slice-before.result.now refl c.as_slice-before.ensures.value node.kind (c.requires.sound.nodes place node is).kind c.requires.entries
 
 pub push_own-requires-clause-plan : goal.push_own-requires-clause-plan
 push_own-requires-clause-plan c =
@@ -78,18 +78,18 @@ push_own-requires-clause-work c =
     (enough_greatest c.args.graph.now.nodes (length c.learn_node.new.work) (omega (arith, c.loop-place.auto.work, c.learn_node.auto.work, c.as_mut_slice-work.ensures.len, c.in_ok-work.ensures.len, c.greatest_work.ensures))).each place node is
 
 pub push_own-requires-clause-residues : goal.push_own-requires-clause-residues
-push_own-requires-clause-residues c = stands_low (value_of c.args.m) c.args.graph.now c.args.inputs.now c.loop-place.sets.items c.loop-place.lengths.items c.loop-place.words.items c.loop-place.places.items c.loop-place.place c.loop-place.total c.loop-place.invariant.stands c.loop-place.words.items c.as_slice-before.result.now refl c.as_slice-before.ensures.value c.requires.residues
+push_own-requires-clause-residues c = stands_low c.args.sizes.now (value_of c.args.m) c.args.graph.now c.args.inputs.now c.loop-place.sets.items c.loop-place.lengths.items c.loop-place.words.items c.loop-place.places.items c.loop-place.place c.loop-place.total c.loop-place.invariant.stands c.loop-place.words.items c.as_slice-before.result.now refl c.as_slice-before.ensures.value c.requires.residues
 
 pub push_own-requires-clause-room : goal.push_own-requires-clause-room
 push_own-requires-clause-room c =
     let node = c.node-item.result in
     let inputs = length c.args.inputs.now in
-    stands_room (value_of c.args.m) c.args.graph.now c.args.inputs.now c.loop-place.sets.items c.loop-place.lengths.items c.loop-place.words.items c.loop-place.places.items c.loop-place.place c.loop-place.total c.loop-place.invariant.stands c.loop-place.words.items c.as_slice-before.result.now refl c.as_slice-before.ensures.value c.in_ok-own.own.set node c.in-Some.count
-    (ap (λ ls. node_length inputs ls c.in_ok-own.own.set node) (sym c.as_slice-earlier.ensures.value) ∙ ap (λ s. node_length inputs c.as_slice-earlier.result.now s node) (sym c.as_slice-set.ensures) ∙ sym c.in_ok-count.ensures.value ∙ c.in-Some.is)
+    (c.args.sizes.now, stands_room c.args.sizes.now (value_of c.args.m) c.args.graph.now c.args.inputs.now c.loop-place.sets.items c.loop-place.lengths.items c.loop-place.words.items c.loop-place.places.items c.loop-place.place c.loop-place.total c.loop-place.invariant.stands c.loop-place.words.items c.as_slice-before.result.now refl c.as_slice-before.ensures.value c.in_ok-own.own.set node c.in-Some.count
+    (ap (λ ls. node_length c.args.sizes.now inputs ls c.in_ok-own.own.set node) (sym c.as_slice-earlier.ensures.value) ∙ ap (λ s. node_length c.args.sizes.now inputs c.as_slice-earlier.result.now s node) (sym c.as_slice-set.ensures) ∙ sym c.in_ok-count.ensures.value ∙ c.in-Some.is))
 
 pub loop-place-init : goal.loop-place-init
 loop-place-init c = record {
-  stands = LearnedStand-none (value_of c.args.m) c.args.graph.now c.args.inputs.now c.new-sets.result.items c.new-lengths.result.items c.in_ok-words.words.items c.push.new.self.items c.new-sets.ensures.items c.new-lengths.ensures.items c.in_ok-words.ensures.items
+  stands = LearnedStand-none c.args.sizes.now (value_of c.args.m) c.args.graph.now c.args.inputs.now c.new-sets.result.items c.new-lengths.result.items c.in_ok-words.words.items c.push.new.self.items c.new-sets.ensures.items c.new-lengths.ensures.items c.in_ok-words.ensures.items
       (c.in_ok-push.ensures.items ∙ ap (λ ps. ps ++ length c.args.inputs.now ∷ []) c.new-places.ensures.items);
   plans = subst (λ ps. PlansSoFar c.args.graph.now.nodes c.new-sets.result.items ps 0) (sym c.new-plans.ensures.items) (subst (λ ss. PlansSoFar c.args.graph.now.nodes ss [] 0) (sym c.new-sets.ensures.items) (PlansSoFar-none c.args.graph.now.nodes));
 }
@@ -102,10 +102,10 @@ returns-in_default-clause-fresh c =
     let is = read_at c.as_slice-node-items.result.now c.args.graph.now.nodes place node c.as_slice-node-items.ensures c.loop-place-test.true c.node-item.is in
     let set = c.in_ok-own.own.set in
     let stands = c.loop-place.invariant.stands in
-    let names = stands_named (value_of c.args.m) c.args.graph.now c.args.inputs.now c.loop-place.sets.items c.loop-place.lengths.items c.loop-place.words.items c.loop-place.places.items c.loop-place.place c.loop-place.total c.loop-place.invariant.stands c.as_slice.result.now c.as_slice-before.result.now c.as_slice.ensures.value c.as_slice-before.ensures.value in
+    let names = stands_named c.args.sizes.now (value_of c.args.m) c.args.graph.now c.args.inputs.now c.loop-place.sets.items c.loop-place.lengths.items c.loop-place.words.items c.loop-place.places.items c.loop-place.place c.loop-place.total c.loop-place.invariant.stands c.as_slice.result.now c.as_slice-before.result.now c.as_slice.ensures.value c.as_slice-before.ensures.value in
     let own : IsPrime m → NodeLearns m (named c.args.inputs.now stands.lists) node set = λ prime. subst (λ (list : Source → List ℕ). NodeLearns m list node set) names (c.in_ok-own.ensures.own prime) in
-    let rule = c.in_ok-count.ensures.value ∙ ap (λ s. node_length (length c.args.inputs.now) c.as_slice-earlier.result.now s node) c.as_slice-set.ensures in
-    breaks_here m c.args.graph.now c.args.inputs.now c.loop-place.sets.items c.loop-place.lengths.items stands.lists place c.loop-place.total node set stands.so_far is own
+    let rule = c.in_ok-count.ensures.value ∙ ap (λ s. node_length c.args.sizes.now (length c.args.inputs.now) c.as_slice-earlier.result.now s node) c.as_slice-set.ensures in
+    breaks_here c.args.sizes.now m c.args.graph.now c.args.inputs.now c.loop-place.sets.items c.loop-place.lengths.items stands.lists place c.loop-place.total node set stands.so_far is own
     (length c.args.inputs.now) c.requires.entries c.as_slice-earlier.result.now c.as_slice-earlier.ensures.value c.in_ok-count.field-0 rule c.in_default.is
 
 pub returns-in_default-clause-fits : goal.returns-in_default-clause-fits
@@ -116,10 +116,10 @@ returns-in_default-clause-fits c =
     let is = read_at c.as_slice-node-items.result.now c.args.graph.now.nodes place node c.as_slice-node-items.ensures c.loop-place-test.true c.node-item.is in
     let set = c.in_ok-own.own.set in
     let stands = c.loop-place.invariant.stands in
-    let names = stands_named (value_of c.args.m) c.args.graph.now c.args.inputs.now c.loop-place.sets.items c.loop-place.lengths.items c.loop-place.words.items c.loop-place.places.items c.loop-place.place c.loop-place.total c.loop-place.invariant.stands c.as_slice.result.now c.as_slice-before.result.now c.as_slice.ensures.value c.as_slice-before.ensures.value in
+    let names = stands_named c.args.sizes.now (value_of c.args.m) c.args.graph.now c.args.inputs.now c.loop-place.sets.items c.loop-place.lengths.items c.loop-place.words.items c.loop-place.places.items c.loop-place.place c.loop-place.total c.loop-place.invariant.stands c.as_slice.result.now c.as_slice-before.result.now c.as_slice.ensures.value c.as_slice-before.ensures.value in
     let own : IsPrime m → NodeLearns m (named c.args.inputs.now stands.lists) node set = λ prime. subst (λ (list : Source → List ℕ). NodeLearns m list node set) names (c.in_ok-own.ensures.own prime) in
-    let rule = c.in_ok-count.ensures.value ∙ ap (λ s. node_length (length c.args.inputs.now) c.as_slice-earlier.result.now s node) c.as_slice-set.ensures in
-    breaks_needed m c.args.graph.now c.args.inputs.now c.loop-place.sets.items c.loop-place.lengths.items stands.lists place c.loop-place.total node set stands.so_far is own
+    let rule = c.in_ok-count.ensures.value ∙ ap (λ s. node_length c.args.sizes.now (length c.args.inputs.now) c.as_slice-earlier.result.now s node) c.as_slice-set.ensures in
+    breaks_needed c.args.sizes.now m c.args.graph.now c.args.inputs.now c.loop-place.sets.items c.loop-place.lengths.items stands.lists place c.loop-place.total node set stands.so_far is own
     (length c.args.inputs.now) c.requires.entries c.as_slice-earlier.result.now c.as_slice-earlier.ensures.value c.in_ok-count.field-0 rule c.in_default.is
 
 pub returns-in-Err-clause-fresh : goal.returns-in-Err-clause-fresh
@@ -130,12 +130,12 @@ returns-in-Err-clause-fresh c =
     let is = read_at c.as_slice-node-items.result.now c.args.graph.now.nodes place node c.as_slice-node-items.ensures c.loop-place-test.true c.node-item.is in
     let set = c.in_ok-own.own.set in
     let stands = c.loop-place.invariant.stands in
-    let names = stands_named (value_of c.args.m) c.args.graph.now c.args.inputs.now c.loop-place.sets.items c.loop-place.lengths.items c.loop-place.words.items c.loop-place.places.items c.loop-place.place c.loop-place.total c.loop-place.invariant.stands c.as_slice.result.now c.as_slice-before.result.now c.as_slice.ensures.value c.as_slice-before.ensures.value in
+    let names = stands_named c.args.sizes.now (value_of c.args.m) c.args.graph.now c.args.inputs.now c.loop-place.sets.items c.loop-place.lengths.items c.loop-place.words.items c.loop-place.places.items c.loop-place.place c.loop-place.total c.loop-place.invariant.stands c.as_slice.result.now c.as_slice-before.result.now c.as_slice.ensures.value c.as_slice-before.ensures.value in
     let own : IsPrime m → NodeLearns m (named c.args.inputs.now stands.lists) node set = λ prime. subst (λ (list : Source → List ℕ). NodeLearns m list node set) names (c.in_ok-own.ensures.own prime) in
-    let rule = c.in_ok-count.ensures.value ∙ ap (λ s. node_length (length c.args.inputs.now) c.as_slice-earlier.result.now s node) c.as_slice-set.ensures in
-    let here = stands_named (value_of c.args.m) c.args.graph.now c.args.inputs.now c.loop-place.sets.items c.loop-place.lengths.items c.loop-place.words.items c.loop-place.places.items c.loop-place.place c.loop-place.total c.loop-place.invariant.stands c.loop-place.words.items c.as_slice-before.result.now refl c.as_slice-before.ensures.value in
+    let rule = c.in_ok-count.ensures.value ∙ ap (λ s. node_length c.args.sizes.now (length c.args.inputs.now) c.as_slice-earlier.result.now s node) c.as_slice-set.ensures in
+    let here = stands_named c.args.sizes.now (value_of c.args.m) c.args.graph.now c.args.inputs.now c.loop-place.sets.items c.loop-place.lengths.items c.loop-place.words.items c.loop-place.places.items c.loop-place.place c.loop-place.total c.loop-place.invariant.stands c.loop-place.words.items c.as_slice-before.result.now refl c.as_slice-before.ensures.value in
     let fails : IsPrime m → NodeFails m no_graphs set (named c.args.inputs.now stands.lists) node c.in-Err.cause = λ prime. subst (λ (list : Source → List ℕ). NodeFails m no_graphs set list node c.in-Err.cause) here ((rw c.in-Err.is at c.in_ok-cause.ensures.err) prime) in
-    singular_here m c.args.graph.now c.args.inputs.now c.loop-place.sets.items c.loop-place.lengths.items stands.lists place c.loop-place.total node set stands.so_far is own
+    singular_here c.args.sizes.now m c.args.graph.now c.args.inputs.now c.loop-place.sets.items c.loop-place.lengths.items stands.lists place c.loop-place.total node set stands.so_far is own
     (length c.args.inputs.now) c.requires.entries c.as_slice-earlier.result.now c.as_slice-earlier.ensures.value c.in_ok-count.field-0 rule c.in-Some.count c.in-Err.cause c.in-Some.is fails
 
 pub returns-in-Err-clause-fits : goal.returns-in-Err-clause-fits
@@ -153,17 +153,17 @@ loop-place-preserved c =
     let is = read_at c.as_slice-node-items.result.now c.args.graph.now.nodes place node c.as_slice-node-items.ensures c.loop-place-test.true c.node-item.is in
     let set = c.in_ok-own.own.set in
     let stands = c.loop-place.invariant.stands in
-    let names = stands_named (value_of c.args.m) c.args.graph.now c.args.inputs.now c.loop-place.sets.items c.loop-place.lengths.items c.loop-place.words.items c.loop-place.places.items c.loop-place.place c.loop-place.total c.loop-place.invariant.stands c.as_slice.result.now c.as_slice-before.result.now c.as_slice.ensures.value c.as_slice-before.ensures.value in
+    let names = stands_named c.args.sizes.now (value_of c.args.m) c.args.graph.now c.args.inputs.now c.loop-place.sets.items c.loop-place.lengths.items c.loop-place.words.items c.loop-place.places.items c.loop-place.place c.loop-place.total c.loop-place.invariant.stands c.as_slice.result.now c.as_slice-before.result.now c.as_slice.ensures.value c.as_slice-before.ensures.value in
     let own : IsPrime m → NodeLearns m (named c.args.inputs.now stands.lists) node set = λ prime. subst (λ (list : Source → List ℕ). NodeLearns m list node set) names (c.in_ok-own.ensures.own prime) in
-    let rule = c.in_ok-count.ensures.value ∙ ap (λ s. node_length (length c.args.inputs.now) c.as_slice-earlier.result.now s node) c.as_slice-set.ensures in
-    let here = stands_named (value_of c.args.m) c.args.graph.now c.args.inputs.now c.loop-place.sets.items c.loop-place.lengths.items c.loop-place.words.items c.loop-place.places.items c.loop-place.place c.loop-place.total c.loop-place.invariant.stands c.loop-place.words.items c.as_slice-before.result.now refl c.as_slice-before.ensures.value in
+    let rule = c.in_ok-count.ensures.value ∙ ap (λ s. node_length c.args.sizes.now (length c.args.inputs.now) c.as_slice-earlier.result.now s node) c.as_slice-set.ensures in
+    let here = stands_named c.args.sizes.now (value_of c.args.m) c.args.graph.now c.args.inputs.now c.loop-place.sets.items c.loop-place.lengths.items c.loop-place.words.items c.loop-place.places.items c.loop-place.place c.loop-place.total c.loop-place.invariant.stands c.loop-place.words.items c.as_slice-before.result.now refl c.as_slice-before.ensures.value in
     let read = c.loop-place.words.items in
     let table = c.as_slice-before.result.now in
     let added = rw c.in_default-2.is at c.in_ok-cause.ensures.ok in
     let planned = rw c.in_default-2.is at c.in_ok-cause.ensures.planned in
     let own_here : IsPrime m → NodeLearns m (placed read table) node set = λ prime. subst (λ (ws : List ℕ). NodeLearns m (placed ws table) node set) c.as_slice.ensures.value (c.in_ok-own.ensures.own prime) in
     record {
-      stands = LearnedStand-more m c.args.graph.now c.args.inputs.now c.loop-place.sets.items c.loop-place.lengths.items c.loop-place.words.items c.loop-place.places.items place c.loop-place.total stands node set (placed read table) is here own_here
+      stands = LearnedStand-more c.args.sizes.now m c.args.graph.now c.args.inputs.now c.loop-place.sets.items c.loop-place.lengths.items c.loop-place.words.items c.loop-place.places.items place c.loop-place.total stands node set (placed read table) is here own_here
           (length c.args.inputs.now) c.requires.entries c.as_slice-earlier.result.now c.as_slice-earlier.ensures.value c.in_ok-count.field-0 rule c.in-Some.count c.push-in-loop-place-2.new.self.items c.push-in-loop-place-4.new.self.items c.push_own.new.words.items c.push-in-loop-place.new.self.items
           c.in_ok-own.ensures.fits c.in-Some.is c.in_ok-count.ensures.limit c.in_ok-count.ensures.bound added c.in_ok-push-3.ensures.items c.in_ok-push-5.ensures.items c.in_ok-push-2.ensures.items;
       plans = PlansSoFar-more c.args.graph.now.nodes c.loop-place.sets.items c.push-in-loop-place-2.new.self.items c.loop-place.plans.items c.push-in-loop-place-3.new.self.items place node set c.in_ok-own.own.plan c.loop-place.invariant.plans stands.so_far.many is planned c.in_ok-push-3.ensures.items c.in_ok-push-4.ensures.items;
@@ -174,7 +174,7 @@ returns-clause-fits c =
     let stands = c.loop-place.invariant.stands in
     let all : c.loop-place.place ≡ length c.args.graph.now.nodes = omega (arith, c.loop-place-test.false, c.loop-place.auto.place-end, ap length c.as_slice-node-items.ensures) in (
       c.learned_of.ensures.point,
-      learned_fits (value_of c.args.m) c.args.graph.now c.args.inputs.now c.loop-place.sets.items c.loop-place.plans.items c.loop-place.lengths.items stands.lists c.loop-place.place c.loop-place.total (length c.args.inputs.now) c.learned_of.result stands.so_far all c.requires.entries
+      learned_fits c.args.sizes.now (value_of c.args.m) c.args.graph.now c.args.inputs.now c.loop-place.sets.items c.loop-place.plans.items c.loop-place.lengths.items stands.lists c.loop-place.place c.loop-place.total (length c.args.inputs.now) c.learned_of.result stands.so_far all c.requires.entries
           c.loop-place.invariant.plans (c.learned_of.ensures.sets ∙ c.from_vec-sets.ensures) (c.learned_of.ensures.plans ∙ c.from_vec-plans.ensures) c.learned_of.ensures.lengths c.learned_of.ensures.output,
     )
 
@@ -182,5 +182,5 @@ pub returns-clause-fresh : goal.returns-clause-fresh
 returns-clause-fresh c =
     let stands = c.loop-place.invariant.stands in
     let all : c.loop-place.place ≡ length c.args.graph.now.nodes = omega (arith, c.loop-place-test.false, c.loop-place.auto.place-end, ap length c.as_slice-node-items.ensures) in
-    learned_all (value_of c.args.m) c.args.graph.now c.args.inputs.now c.loop-place.sets.items c.loop-place.plans.items c.loop-place.lengths.items stands.lists c.loop-place.place c.loop-place.total (length c.args.inputs.now) c.learned_of.result stands.so_far all c.requires.entries
+    learned_all c.args.sizes.now (value_of c.args.m) c.args.graph.now c.args.inputs.now c.loop-place.sets.items c.loop-place.plans.items c.loop-place.lengths.items stands.lists c.loop-place.place c.loop-place.total (length c.args.inputs.now) c.learned_of.result stands.so_far all c.requires.entries
     c.loop-place.invariant.plans (c.learned_of.ensures.sets ∙ c.from_vec-sets.ensures) (c.learned_of.ensures.plans ∙ c.from_vec-plans.ensures) c.learned_of.ensures.lengths c.learned_of.ensures.output c.learned_of.ensures.point

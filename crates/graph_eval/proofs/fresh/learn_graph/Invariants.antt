@@ -6,6 +6,6 @@ use Rattle.graph_eval.proofs.fresh.learn_graph.Given as goal
 
 abbrev pub invariant-loop-place : goal.invariant-loop-place
 invariant-loop-place l = record {
-  stands : LearnedStand (value_of l.m) l.graph l.inputs l.sets.items l.lengths.items l.words.items l.places.items l.place l.total;
+  stands : LearnedStand l.sizes (value_of l.m) l.graph l.inputs l.sets.items l.lengths.items l.words.items l.places.items l.place l.total;
   plans : PlansSoFar l.graph.nodes l.sets.items l.plans.items l.place;
 }

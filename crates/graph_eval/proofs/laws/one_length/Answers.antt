@@ -12,10 +12,10 @@ pub returns-clause-plans : goal.returns-clause-plans
 returns-clause-plans c = plans_once
 
 pub returns-clause-either : goal.returns-clause-either
-returns-clause-either c = λ graph a n plain. fits_or_fails graph plain a n
+returns-clause-either c = λ sizes graph a n plain. fits_or_fails sizes graph plain a n
 
 pub returns-clause-node : goal.returns-clause-node
 returns-clause-node c = failure_once
 
 pub returns-clause-sets : goal.returns-clause-sets
-returns-clause-sets c = λ graph a b plain. sets_once graph plain a b
+returns-clause-sets c = λ sizes graph a b plain. sets_once sizes graph plain a b

@@ -24,7 +24,7 @@ returns-in_default c =
     let place = c.loop-place.place in
     let node = c.node-item.result in
     let is = read_at c.as_slice-node-items.result.now c.args.graph.now.nodes place node c.as_slice-node-items.ensures c.loop-place-test.true c.node-item.is in
-    fails_here c.args.graph.now c.loop-place.lengths.items place c.loop-place.total c.len-inputs.result c.as_slice.result.now node c.in_ok-own.field-0 c.loop-place.invariant is
+    fails_here c.args.sizes.now c.args.graph.now c.loop-place.lengths.items place c.loop-place.total c.len-inputs.result c.as_slice.result.now node c.in_ok-own.field-0 c.loop-place.invariant is
     c.len-inputs.ensures c.as_slice.ensures.value c.in_ok-own.ensures.value c.in_default.is
 
 pub loop-place-preserved : goal.loop-place-preserved
@@ -32,7 +32,7 @@ loop-place-preserved c =
     let place = c.loop-place.place in
     let node = c.node-item.result in
     let is = read_at c.as_slice-node-items.result.now c.args.graph.now.nodes place node c.as_slice-node-items.ensures c.loop-place-test.true c.node-item.is in
-    one_more c.args.graph.now [] c.loop-place.lengths.items place c.loop-place.total c.len-inputs.result c.as_slice.result.now [] node c.in_ok-own.field-0 c.loop-place.invariant is
+    one_more c.args.sizes.now c.args.graph.now [] c.loop-place.lengths.items place c.loop-place.total c.len-inputs.result c.as_slice.result.now [] node c.in_ok-own.field-0 c.loop-place.invariant is
     c.len-inputs.ensures c.as_slice.ensures.value refl c.in_ok-own.ensures.value c.in-Some.own c.push.new.self.items c.in-Some.is c.in_ok-own.ensures.limit c.in_ok-own.ensures.bound c.in_ok-push.ensures.items
 
 pub returns : goal.returns
@@ -41,6 +41,6 @@ returns c =
     let empty : AreEmpty c.len.result c.learned_of.result.sets = subst (AreEmpty c.len.result) (sym c.learned_of.ensures.sets) c.in_ok-sets.ensures in
     let none : AreNone c.len.result c.learned_of.result.plans = subst (λ (n : ℕ). AreNone n c.learned_of.result.plans) (c.len-2.ensures ∙ sym c.len.ensures) (subst (AreNone c.len-2.result) (sym c.learned_of.ensures.plans) c.in_ok-plans.ensures) in (
       c.learned_of.ensures.point,
-      fits_plain c.args.graph.now c.loop-place.lengths.items c.loop-place.place c.loop-place.total c.len-inputs.result c.len.result c.learned_of.result c.requires.plain c.loop-place.invariant all c.len-inputs.ensures c.len.ensures empty none
+      fits_plain c.args.sizes.now c.args.graph.now c.loop-place.lengths.items c.loop-place.place c.loop-place.total c.len-inputs.result c.len.result c.learned_of.result c.requires.plain c.loop-place.invariant all c.len-inputs.ensures c.len.ensures empty none
           c.learned_of.ensures.lengths c.learned_of.ensures.output,
     )

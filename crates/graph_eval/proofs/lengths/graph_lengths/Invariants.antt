@@ -4,4 +4,4 @@ use Rattle.graph_eval.proofs.LengthLaws.{LengthsSoFar}
 use Rattle.graph_eval.proofs.lengths.graph_lengths.Given as goal
 
 abbrev pub invariant-loop-place : goal.invariant-loop-place
-invariant-loop-place l = LengthsSoFar l.graph [] l.lengths.items l.place l.total
+invariant-loop-place l = LengthsSoFar l.sizes l.graph [] l.lengths.items l.place l.total

@@ -27,8 +27,8 @@ pub write_list-requires-clause-room : goal.write_list-requires-clause-room
 write_list-requires-clause-room c =
     let before_is = c.split_at_mut-before.ensures.front ∙ front_kept c.args.words.now.items c.as_mut_slice.result.now _ c.len-len.result c.args.count (omega (arith, c.len-len.ensures, c.args.words.now.ok)) (c.as_mut_slice.ensures.value ∙ c.in_ok-resize.ensures.items) in
     let long : length c.split_at_mut-before.result.1.now ≡ c.args.count = omega (arith, c.split_at_mut-before.ensures.back_len, c.as_mut_slice.ensures.len, c.in_ok-resize.ensures.len, c.len-len.ensures) in
-    let has = subst (λ (b : Bool). MatchBool b (listed_length (placed c.args.words.now.items c.args.places.now) c.args.own.now.set c.args.node.now.kind ≡ Some c.args.count) (c.args.count ≡ 0)) c.if-not-node.false c.requires.room in
-    ap (λ ws. listed_length (placed ws c.args.places.now) c.as_slice-set.result.now c.args.node.now.kind) before_is ∙ ap (λ s. listed_length (placed c.args.words.now.items c.args.places.now) s c.args.node.now.kind) c.as_slice-set.ensures ∙ has ∙ ap (λ n. Some n) (sym long)
+    let has = subst (λ (b : Bool). MatchBool b (listed_length c.requires.room.0 (placed c.args.words.now.items c.args.places.now) c.args.own.now.set c.args.node.now.kind ≡ Some c.args.count) (c.args.count ≡ 0)) c.if-not-node.false c.requires.room.1 in
+    (c.requires.room.0, ap (λ ws. listed_length c.requires.room.0 (placed ws c.args.places.now) c.as_slice-set.result.now c.args.node.now.kind) before_is ∙ ap (λ s. listed_length c.requires.room.0 (placed c.args.words.now.items c.args.places.now) s c.args.node.now.kind) c.as_slice-set.ensures ∙ has ∙ ap (λ n. Some n) (sym long))
 
 pub returns-clause-ok : goal.returns-clause-ok
 returns-clause-ok c =

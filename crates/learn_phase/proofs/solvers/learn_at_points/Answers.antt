@@ -30,7 +30,7 @@ loop-q-preserved c =
       tried = λ graph is.
           HasTried-more place graph q c.loop-q.first singular (omega (arith, c.loop-q.invariant.long, c.loop-q-test.true)) (c.loop-q.invariant.tried graph is)
           (λ prime. subst (λ (given : Result GraphLearned Singular). TellsPoint place graph q (Ok given)) c.in-Err.is (c.in_ok-entry.ensures.told graph is prime))
-          (subst (λ (given : Result GraphLearned Singular). FitsPoint place.number graph (Ok given)) c.in-Err.is (c.in_ok-entry.ensures.fits graph is));
+          (subst (λ (given : Result GraphLearned Singular). FitsPoint place graph (Ok given)) c.in-Err.is (c.in_ok-entry.ensures.fits graph is));
     }
 
 pub returns-clause-told : goal.returns-clause-told
