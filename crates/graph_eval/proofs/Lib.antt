@@ -10,6 +10,7 @@ pub mod Meanings
 pub mod OneFresh
 pub mod OneLength
 pub mod OneValue
+mod Memoing
 mod OwnLaws
 pub mod Places
 mod Remembered

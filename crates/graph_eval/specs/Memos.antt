@@ -4,6 +4,7 @@ use Rattle.prime_field.specs.declared.Modulus.{Modulus}
 use Rattle.prime_field.specs.Modulus.{value_of}
 use Rattle.prime_field.specs.Residue.{IsPrime}
 use Rattle.graph_file.specs.declared.graph.Graph.{Graph}
+use Rattle.graph_eval.specs.declared.learned.GraphLearned.{GraphLearned}
 use Rattle.graph_eval.specs.declared.memos.MemoFrame.{MemoFrame}
 use Rattle.graph_eval.specs.GraphValue.{GraphValue, Value}
 
@@ -33,3 +34,9 @@ pub record AreKept (graphs : List Graph) (sets : List (List (List ℕ))) (frames
   pub stand : FramesStand frames (length kept)
   pub many : length moduli ≡ length frames
   pub each : (i : ℕ) (frame : MemoFrame) (m : Modulus) → slice_get frames i ≡ Some frame → slice_get moduli i ≡ Some (Some m) → Holds graphs sets kept frame m
+
+-- a memo has room for the inputs and the output of an earlier graph
+pub record FitsFrame (graphs : List Graph) (learned : List GraphLearned) (frame : MemoFrame) : Type 0 where
+  pub called : frame.graph < length graphs
+  pub inputs : (graph : Graph) → slice_get graphs frame.graph ≡ Some graph → frame.inputs ≡ length graph.inputs
+  pub outputs : (entry : GraphLearned) → slice_get learned frame.graph ≡ Some entry → frame.outputs ≡ entry.output

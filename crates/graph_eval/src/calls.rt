@@ -8,6 +8,7 @@ ghost use Rattle.graph_file.specs.declared.graph.Graph.{Graph as GraphOf};
 ghost use Rattle.graph_eval.specs.declared.learned.GraphLearned.{GraphLearned as LearnedOf};
 ghost use Rattle.graph_eval.specs.GraphValue.{GraphValue, IsStopped, SingularAt};
 ghost use Rattle.graph_eval.specs.Learned.{AreGraphs, Fits, sets_of};
+ghost use Rattle.graph_eval.specs.Memos.{AreKept, FitsFrame};
 ghost use Rattle.graph_eval.specs.Needs.{AreTables, words_for};
 ghost use Rattle.graph_eval.specs.Reading.{HasLength, IsThere, placed};
 ghost use Rattle.graph_eval.specs.Stacked.{AreCalled, IsCalled};
@@ -16,6 +17,7 @@ ghost use Rattle.graph_eval.specs.Systems.{AreEnoughFor};
 use crate::evaluation::evaluate;
 use crate::kinds::write_chained;
 use crate::learned::GraphLearned;
+use crate::memos::{MemoFrame, recall, remember};
 use crate::outcome::Singular;
 use graph_file::{Graph, Source};
 use prime_field::Modulus;
@@ -119,5 +121,59 @@ pub(crate) fn write_map(
             Err(singular) => return Err(singular),
         }
     }
+    Ok(())
+}
+
+/// Appends what an earlier graph gives on the lists that sources name, taken as one list, as [`write_call`] does, but from
+/// what a memo keeps where it was asked the same last. What the graph gives is kept, once it has a value.
+///
+/// # Errors
+///
+/// The first node of that graph that has no value. Then nothing is known of the words.
+pub(crate) fn write_memo(
+    m: Modulus,
+    graphs: &[Graph],
+    learned: &[GraphLearned],
+    tables: &[Items<usize>],
+    frames: &[MemoFrame],
+    slot: usize,
+    frame: MemoFrame,
+    parts: &[Source],
+    places: &[usize],
+    base: usize,
+    moduli: &mut [Option<Modulus>],
+    stack: &mut Stack,
+    work: &mut [u64],
+) -> Result<(), Singular>
+    requires sound { AreGraphs graphs.now }
+    requires fits { Fits graphs.now learned.now }
+    requires tables { AreTables graphs.now learned.now tables.now }
+    requires work { AreEnoughFor graphs.now (length work.old) }
+    requires memos { AreKept graphs.now (sets_of learned.now) frames.now moduli.old stack.old.kept }
+    requires frame { slice_get frames.now slot ≡ Some frame }
+    requires memo { FitsFrame graphs.now learned.now frame }
+    requires base { base ≤ length stack.old.words }
+    requires there { All (IsThere (drop base stack.old.words) places.now) parts.now }
+    requires inputs { length (chained (map (placed (drop base stack.old.words) places.now) parts.now)) ≡ frame.inputs }
+    requires room { length stack.old.words + frame.outputs + words_for graphs.now learned.now frame.graph ≤ stack.old.size }
+    requires residues { All (λ x. x < value_of m) (drop base stack.old.words) }
+    ensures size { stack.new.size ≡ stack.old.size }
+    ensures kept { length stack.new.kept ≡ length stack.old.kept }
+    ensures memos { AreKept graphs.now (sets_of learned.now) frames.now moduli.new stack.new.kept }
+    ensures ok { OnOk result (IsCalled (value_of m) graphs.now learned.now frame.graph (chained (map (placed (drop base stack.old.words) places.now) parts.now)) stack.old.words stack.new.words) }
+    ensures err { IfErr result (λ singular. IsPrime (value_of m)
+        → GraphValue (value_of m) graphs.now (sets_of learned.now) frame.graph (chained (map (placed (drop base stack.old.words) places.now) parts.now)) (SingularAt singular.node singular.cause)) }
+{
+    let top = stack.len();
+    push_chain(parts, places, base, frame.inputs, stack);
+    if recall(m, frame, moduli[slot], top, stack) {
+        return Ok(());
+    }
+    match evaluate(m, graphs, learned, tables, frame.graph, top, stack, work) {
+        Ok(()) => {}
+        Err(singular) => return Err(singular),
+    }
+    push_chain(parts, places, base, frame.inputs, stack);
+    remember(m, slot, frame, moduli, top, stack);
     Ok(())
 }

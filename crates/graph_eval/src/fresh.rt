@@ -99,5 +99,6 @@ pub fn fresh_point(
 {
     let graphs = job.graphs.as_slice();
     let sizes = sizes_of(alloc, graphs, learned.all())?;
-    learn_graph(alloc, m, &graphs[graph as usize], sizes.as_slice(), point.entries())
+    let inputs = point.entries();
+    Ok(learn_graph(alloc, m, &graphs[graph as usize], sizes.as_slice(), inputs)?)
 }

@@ -197,5 +197,5 @@ pub fn lengths_of(
 {
     let graphs = job.graphs.as_slice();
     let sizes = sizes_of(alloc, graphs, learned.all())?;
-    graph_lengths(alloc, &graphs[graph as usize], sizes.as_slice())
+    Ok(graph_lengths(alloc, &graphs[graph as usize], sizes.as_slice())?)
 }

@@ -1,11 +1,8 @@
 //! What memos keep from one point to the next.
 
-ghost use Rattle.std.specs.Prelude.{◌≡◌, ◌+◌, ◌≤◌, ◌++◌, All, List, Some, drop, false, length, slice_get, slice_range, take, true};
-ghost use Rattle.prime_field.specs.Modulus.{value_of};
-ghost use Rattle.prime_field.specs.Residue.{IsPrime};
-ghost use Rattle.graph_file.specs.declared.graph.Graph.{Graph as GraphOf};
-ghost use Rattle.graph_eval.specs.GraphValue.{GraphValue, Value};
-ghost use Rattle.graph_eval.specs.Memos.{AreKept, frame_end, kept_input, kept_output};
+ghost use Rattle.std.specs.Prelude.{◌≡◌, ◌+◌, ◌<◌, ◌≤◌, ◌++◌, Some, drop, false, length, set, slice_range, take, true};
+ghost use Rattle.word_region.specs.Words.{written_at};
+ghost use Rattle.graph_eval.specs.Memos.{frame_end, kept_input, kept_output};
 
 use prime_field::Modulus;
 use word_region::Stack;
@@ -72,8 +69,10 @@ pub(crate) fn remember(
     ensures moduli { moduli.new ≡ set moduli.old slot (Some m) }
     ensures kept { stack.new.kept ≡ written_at (frame.at + frame.inputs) (slice_range stack.old.words base (base + frame.outputs)) (written_at frame.at (drop (base + frame.outputs) stack.old.words) stack.old.kept) }
 {
-    let output = base + frame.outputs;
-    stack.store(output, output + frame.inputs, frame.at);
+    let end = stack.len();
+    let output = end - frame.inputs;
+    let _kept = stack.kept().len();
+    stack.store(output, end, frame.at);
     stack.store(base, output, frame.at + frame.inputs);
     stack.cut(output);
     moduli[slot] = Some(m);

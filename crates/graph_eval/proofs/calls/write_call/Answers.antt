@@ -4,6 +4,7 @@ use Rattle.prime_field.specs.Modulus.{value_of}
 use Rattle.word_region.specs.Board.{Board}
 use Rattle.basic_nodes.specs.Plain.{chained}
 use Rattle.basic_nodes.proofs.Pieces.{chained_residues}
+use Rattle.graph_file.specs.declared.graph.Graph.{Graph}
 use Rattle.graph_eval.specs.Reading.{placed}
 use Rattle.graph_eval.proofs.Calling.{called_err, called_ok, called_ready, inputs_fit}
 use Rattle.graph_eval.proofs.Places.{read_at, stands}
@@ -15,7 +16,8 @@ push_chain-requires-clause-count c =
     let graphs = c.args.graphs.now in
     let graph = c.index-graphs-called.result in
     let is = read_at graphs graphs c.args.called graph refl c.requires.called c.index-graphs-called.is in
-    c.len.ensures ∙ sym (c.requires.inputs graph is)
+    let count : c.len.result ≡ length graph.inputs = c.len.ensures ∙ ap (λ (g : Graph). length g.inputs) (sym c.index-graphs-called.is) in
+    count ∙ sym (c.requires.inputs graph is)
 
 pub push_chain-requires-clause-room : goal.push_chain-requires-clause-room
 push_chain-requires-clause-room c =
@@ -24,7 +26,8 @@ push_chain-requires-clause-room c =
     let graph = c.index-graphs-called.result in
     let is = read_at graphs graphs c.args.called graph refl c.requires.called c.index-graphs-called.is in
     let entry = stands learned c.args.called (omega (arith, c.requires.called, c.requires.fits.many)) in
-    omega (arith, c.len.ensures, inputs_fit graphs learned c.args.called graph entry.0 is entry.1, c.requires.room)
+    let count : c.len.result ≡ length graph.inputs = c.len.ensures ∙ ap (λ (g : Graph). length g.inputs) (sym c.index-graphs-called.is) in
+    omega (arith, count, inputs_fit graphs learned c.args.called graph entry.0 is entry.1, c.requires.room)
 
 pub evaluate-requires-clause-ready : goal.evaluate-requires-clause-ready
 evaluate-requires-clause-ready c =

@@ -35,7 +35,7 @@ write_call-requires-clause-base c =
     let words = c.loop-k.stack.words in
     let so_far = c.loop-k.invariant.called in
     let more = chained so_far.outs in
-    let below : k < length parts = omega (arith, c.loop-k-test.true, c.len.ensures) in
+    let below : k < length parts = omega (arith, c.loop-k-test.true) in
     omega (arith, ap length so_far.words, length-append old more, c.requires.base)
 
 pub write_call-requires-clause-there : goal.write_call-requires-clause-there
@@ -51,7 +51,7 @@ write_call-requires-clause-there c =
     let words = c.loop-k.stack.words in
     let so_far = c.loop-k.invariant.called in
     let more = chained so_far.outs in
-    let below : k < length parts = omega (arith, c.loop-k-test.true, c.len.ensures) in
+    let below : k < length parts = omega (arith, c.loop-k-test.true) in
     part_stands base old more words places parts k c.requires.base so_far.words below c.requires.there
 
 pub write_call-requires-clause-inputs : goal.write_call-requires-clause-inputs
@@ -67,7 +67,7 @@ write_call-requires-clause-inputs c =
     let words = c.loop-k.stack.words in
     let so_far = c.loop-k.invariant.called in
     let more = chained so_far.outs in
-    let below : k < length parts = omega (arith, c.loop-k-test.true, c.len.ensures) in
+    let below : k < length parts = omega (arith, c.loop-k-test.true) in
     λ graph is. ap length (part_chain base old more words places parts k c.requires.base so_far.words below c.requires.there) ∙ All-get_or (HasLength (drop base old) places (length graph.inputs)) parts k source.Input below (c.requires.inputs graph is)
 
 pub write_call-requires-clause-room : goal.write_call-requires-clause-room
@@ -83,7 +83,7 @@ write_call-requires-clause-room c =
     let words = c.loop-k.stack.words in
     let so_far = c.loop-k.invariant.called in
     let more = chained so_far.outs in
-    let below : k < length parts = omega (arith, c.loop-k-test.true, c.len.ensures) in
+    let below : k < length parts = omega (arith, c.loop-k-test.true) in
     let entry = stands learned c.args.called (omega (arith, c.requires.called, c.requires.fits.many)) in
     let long = so_far.long entry.0 entry.1 in
     let product = mul-le-mul_right {m = k} {n = length parts} entry.0.output (omega (arith, below)) in
@@ -102,7 +102,7 @@ write_call-requires-clause-residues c =
     let words = c.loop-k.stack.words in
     let so_far = c.loop-k.invariant.called in
     let more = chained so_far.outs in
-    let below : k < length parts = omega (arith, c.loop-k-test.true, c.len.ensures) in
+    let below : k < length parts = omega (arith, c.loop-k-test.true) in
     part_low base old more words places parts k c.requires.base so_far.words below c.requires.there m c.requires.residues (chained_residues m so_far.outs so_far.low)
 
 pub returns-in-Err-clause-err : goal.returns-in-Err-clause-err
@@ -118,7 +118,7 @@ returns-in-Err-clause-err c =
     let words = c.loop-k.stack.words in
     let so_far = c.loop-k.invariant.called in
     let more = chained so_far.outs in
-    let below : k < length parts = omega (arith, c.loop-k-test.true, c.len.ensures) in
+    let below : k < length parts = omega (arith, c.loop-k-test.true) in
     let ins = map (placed (drop base old) places) parts in
     let chain = chained (map (placed (drop base words) places) (slice_range parts k (k + 1))) in
     let low_ins : k < length ins = omega (arith, below, length-map parts (placed (drop base old) places)) in
@@ -138,7 +138,7 @@ loop-k-preserved c =
     let words = c.loop-k.stack.words in
     let so_far = c.loop-k.invariant.called in
     let more = chained so_far.outs in
-    let below : k < length parts = omega (arith, c.loop-k-test.true, c.len.ensures) in
+    let below : k < length parts = omega (arith, c.loop-k-test.true) in
     let ins = map (placed (drop base old) places) parts in
     let chain = chained (map (placed (drop base words) places) (slice_range parts k (k + 1))) in
     let low_ins : k < length ins = omega (arith, below, length-map parts (placed (drop base old) places)) in
@@ -151,5 +151,5 @@ loop-k-preserved c =
 
 pub returns-clause-ok : goal.returns-clause-ok
 returns-clause-ok c =
-    let all : c.loop-k.k ≡ length c.args.parts.now = omega (arith, c.loop-k-test.false, c.loop-k.auto.k-end, c.len.ensures) in
+    let all : c.loop-k.k ≡ length c.args.parts.now = omega (arith, c.loop-k-test.false, c.loop-k.auto.k-end) in
     subst (λ (n : ℕ). AreCalled (value_of c.args.m) c.args.graphs.now c.args.learned.now c.args.called (map (placed (drop c.args.base c.args.stack.now.words) c.args.places.now) c.args.parts.now) n c.args.stack.now.words c.loop-k.stack.words) all c.loop-k.invariant.called

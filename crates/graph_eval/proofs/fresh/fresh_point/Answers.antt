@@ -23,7 +23,7 @@ returns-clause-fresh c = λ prime.
     let graph = c.index-graphs-graph.result in
     let answer = c.in_ok-learn_graph.field-0 in
     let sizes_are : c.as_slice.result.now ≡ sizes_of graphs learned = c.as_slice.ensures.value ∙ c.in_ok-sizes.ensures ∙ ap (λ gs. sizes_of gs c.all.result.now) c.as_slice-graphs.ensures ∙ ap (sizes_of graphs) c.all.ensures in
-    let fresh = subst (λ (point : List ℕ). IsFresh m no_graphs c.as_slice.result.now graph point answer) c.entries.ensures.value (c.in_ok-learn_graph.ensures.fresh prime) in (
+    let fresh = subst (λ (point : List ℕ). IsFresh m no_graphs c.as_slice.result.now graph point answer) c.entries-inputs.ensures.value (c.in_ok-learn_graph.ensures.fresh prime) in (
       graph,
       read_at c.as_slice-graphs.result.now graphs c.args.graph graph c.as_slice-graphs.ensures (omega (arith, ap length c.as_slice-graphs.ensures, c.requires.there)) c.index-graphs-graph.is,
       fresh_alone (sizes_of graphs learned) m (meanings m graphs (sets_of learned) c.args.graph) graph c.args.point.now answer (subst (λ (sizes : List GraphSize). IsFresh m no_graphs sizes graph c.args.point.now answer) sizes_are fresh),

@@ -58,3 +58,12 @@ returns-clause-err c =
     subst (λ (ws : List ℕ). IfErr c.write_list.result (λ cause. IsPrime m → KindFails m no_graphs set (placed ws places) node.kind cause)) before_is
     (subst (λ (s : List ℕ). IfErr c.write_list.result (λ cause. IsPrime m → KindFails m no_graphs s (placed c.split_at_mut-before.result.0.now places) node.kind cause)) c.as_slice-set.ensures c.write_list.ensures.err) in
     failed_here m set (placed words places) node c.write_list.result c.if-not-node.false fails
+
+pub returns-then-not-own-clause-err : goal.returns-then-not-own-clause-err
+returns-then-not-own-clause-err c = λ prime.
+    let list = placed c.args.words.now.items c.args.places.now in
+    let set = c.args.own.now.set in
+    let count = c.args.count in
+    let needed = c.requires.plan.needed c.if-not-own.true in
+    let has = subst (λ (b : Bool). MatchBool b (listed_length c.requires.room.0 list set c.args.node.now.kind ≡ Some count) (count ≡ 0)) needed c.requires.room.1 in
+    c.requires.plan.fails c.if-not-own.true c.requires.room.0 count has prime
