@@ -37,8 +37,12 @@ greatest_among (expr ∷ rest) = max (greatest expr) (greatest_among rest)
 abbrev pub size_of : Graph → GraphLearned → GraphSize
 size_of graph learned = record { inputs = length graph.inputs; outputs = learned.output }
 
--- the same of each of the first graphs of a file, of which this was learned
-abbrev pub sizes_of : List Graph → List GraphLearned → List GraphSize
+-- the sizes of the first graphs of a file, in order
+abbrev pub Sizes : Type 0
+Sizes = List GraphSize
+
+-- the sizes of those of which this was learned
+abbrev pub sizes_of : List Graph → List GraphLearned → Sizes
 sizes_of graphs [] = []
 sizes_of [] (entry ∷ learned) = []
 sizes_of (graph ∷ graphs) (entry ∷ learned) = size_of graph entry ∷ sizes_of graphs learned

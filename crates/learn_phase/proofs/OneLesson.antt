@@ -9,8 +9,7 @@ use Rattle.graph_eval.specs.declared.fresh.Fresh.TheVariants as fresh
 use Rattle.graph_eval.specs.declared.learned.GraphLearned.{GraphLearned}
 use Rattle.graph_eval.specs.declared.outcome.Singular.{Singular}
 use Rattle.graph_eval.specs.Fresh.{IsFreshAt}
-use Rattle.graph_eval.specs.declared.shapes.GraphSize.{GraphSize}
-use Rattle.graph_eval.specs.Learned.{FailsLength, FitsGraph, has_solver, outputs_of, sizes_of}
+use Rattle.graph_eval.specs.Learned.{FailsLength, FitsGraph, has_solver, outputs_of, Sizes, sizes_of}
 use Rattle.learn_phase.specs.LearnedSets.{AllSingular, AnswersAt, AnswersFirst, AreSingular, BreaksLength, BreaksRule, Broken, FirstLearn, GivesBehind, GraphLesson, Learns, LearnsAtPoints, LearnsByRules, LearnsGraph, LearnsUnder, Lesson, NoPoint, Place, Taught, learning_modulus, output_node}
 use Rattle.learn_phase.specs.Points.{learning_point}
 use Rattle.graph_eval.proofs.OneLength.{learned_same}
@@ -21,12 +20,12 @@ use Rattle.learn_phase.proofs.Taking.{behind}
 -- the laws of the definitions below that of a lesson
 pub record Laws : Type 0 where
   pub one_fresh : (m : ℕ) (graphs : List Graph) (learned : List GraphLearned) (number : ℕ) (inputs : List ℕ) (a b : Fresh) → 1 < m → IsFreshAt m graphs learned number inputs a → IsFreshAt m graphs learned number inputs b → a ≡ b
-  pub lengths : (sizes : List GraphSize) (graph : Graph) (a b : GraphLearned) → a.sets ≡ b.sets → FitsGraph sizes graph a → FitsGraph sizes graph b → a.lengths ≡ b.lengths
-  pub output : (sizes : List GraphSize) (graph : Graph) (a b : GraphLearned) → a.sets ≡ b.sets → FitsGraph sizes graph a → FitsGraph sizes graph b → a.output ≡ b.output
-  pub plans : (sizes : List GraphSize) (graph : Graph) (a b : GraphLearned) → a.sets ≡ b.sets → FitsGraph sizes graph a → FitsGraph sizes graph b → a.plans ≡ b.plans
-  pub sets : (sizes : List GraphSize) (graph : Graph) (a b : GraphLearned) → has_solver graph ≡ false → FitsGraph sizes graph a → FitsGraph sizes graph b → a.sets ≡ b.sets
-  pub either : (sizes : List GraphSize) (graph : Graph) (a : GraphLearned) (n : ℕ) → has_solver graph ≡ false → FitsGraph sizes graph a → FailsLength sizes graph n → ⊥
-  pub node : (sizes : List GraphSize) (graph : Graph) (n k : ℕ) → FailsLength sizes graph n → FailsLength sizes graph k → n ≡ k
+  pub lengths : (sizes : Sizes) (graph : Graph) (a b : GraphLearned) → a.sets ≡ b.sets → FitsGraph sizes graph a → FitsGraph sizes graph b → a.lengths ≡ b.lengths
+  pub output : (sizes : Sizes) (graph : Graph) (a b : GraphLearned) → a.sets ≡ b.sets → FitsGraph sizes graph a → FitsGraph sizes graph b → a.output ≡ b.output
+  pub plans : (sizes : Sizes) (graph : Graph) (a b : GraphLearned) → a.sets ≡ b.sets → FitsGraph sizes graph a → FitsGraph sizes graph b → a.plans ≡ b.plans
+  pub sets : (sizes : Sizes) (graph : Graph) (a b : GraphLearned) → has_solver graph ≡ false → FitsGraph sizes graph a → FitsGraph sizes graph b → a.sets ≡ b.sets
+  pub either : (sizes : Sizes) (graph : Graph) (a : GraphLearned) (n : ℕ) → has_solver graph ≡ false → FitsGraph sizes graph a → FailsLength sizes graph n → ⊥
+  pub node : (sizes : Sizes) (graph : Graph) (n k : ℕ) → FailsLength sizes graph n → FailsLength sizes graph k → n ≡ k
 
 -- the answer isn't that a node has no value
 IsLast : Fresh → Type 0
