@@ -108,18 +108,18 @@ module _ (m : ℕ) (graphs : List Graph) (learned : List GraphLearned) (called :
           many = length-append outs (values ∷ []) ∙ ap (λ n. n + 1) so_far.many;
           words = one.words ∙ ap (λ xs. xs ++ values) so_far.words ∙ append_assoc old (chained outs) values ∙ ap (λ xs. old ++ xs) (sym (chained-more outs values));
           first = λ prime. record {
-              within = omega (arith, length-append outs (values ∷ []), so_far.many);
-              each = λ n within. elim (cases_eq n (length outs)) [
-                | inl e ↦
-                    let given : GraphValue m graphs (sets_of learned) called (slice_index_or ins (length outs) []) (Value (slice_index_or (outs ++ values ∷ []) (length outs) [])) =
-                    subst (λ (xs : List ℕ). GraphValue m graphs (sets_of learned) called xs (Value (slice_index_or (outs ++ values ∷ []) (length outs) []))) (sym here)
-                    (subst (λ (vs : List ℕ). GraphValue m graphs (sets_of learned) called chain (Value vs)) (sym (get_or-append_seam outs values [] [])) (one.value prime)) in
-                    subst (λ (k : ℕ). GraphValue m graphs (sets_of learned) called (slice_index_or ins k []) (Value (slice_index_or (outs ++ values ∷ []) k []))) (sym e) given
-                | inr ne ↦
-                    let earlier : n < length outs = omega (arith, length-append outs (values ∷ [])) in
-                    subst (λ (vs : List ℕ). GraphValue m graphs (sets_of learned) called (slice_index_or ins n []) (Value vs)) (sym (get_or-append outs (values ∷ []) [] n earlier)) ((so_far.first prime).each n earlier)
-              ];
-            };
+            within = omega (arith, length-append outs (values ∷ []), so_far.many);
+            each = λ n within. elim (cases_eq n (length outs)) [
+              | inl e ↦
+                  let given : GraphValue m graphs (sets_of learned) called (slice_index_or ins (length outs) []) (Value (slice_index_or (outs ++ values ∷ []) (length outs) [])) =
+                  subst (λ (xs : List ℕ). GraphValue m graphs (sets_of learned) called xs (Value (slice_index_or (outs ++ values ∷ []) (length outs) []))) (sym here)
+                  (subst (λ (vs : List ℕ). GraphValue m graphs (sets_of learned) called chain (Value vs)) (sym (get_or-append_seam outs values [] [])) (one.value prime)) in
+                  subst (λ (k : ℕ). GraphValue m graphs (sets_of learned) called (slice_index_or ins k []) (Value (slice_index_or (outs ++ values ∷ []) k []))) (sym e) given
+              | inr ne ↦
+                  let earlier : n < length outs = omega (arith, length-append outs (values ∷ [])) in
+                  subst (λ (vs : List ℕ). GraphValue m graphs (sets_of learned) called (slice_index_or ins n []) (Value vs)) (sym (get_or-append outs (values ∷ []) [] n earlier)) ((so_far.first prime).each n earlier)
+            ];
+          };
           low = All-push (All (λ x. x < m)) outs values so_far.low one.low;
           long = λ entry is.
               let all = ap length (chained-more outs values) ∙ length-append (chained outs) values in

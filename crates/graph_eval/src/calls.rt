@@ -26,13 +26,7 @@ use word_region::Stack;
 
 /// Appends the lists that sources name, one after the other, which have `count` entries together. The lists stand above the
 /// first `base` words, and end at these places.
-fn push_chain(
-    parts: &[Source],
-    places: &[usize],
-    base: usize,
-    count: usize,
-    stack: &mut Stack,
-)
+fn push_chain(parts: &[Source], places: &[usize], base: usize, count: usize, stack: &mut Stack)
     requires base { base ≤ length stack.old.words }
     requires there { All (IsThere (drop base stack.old.words) places.now) parts.now }
     requires count { count ≡ length (chained (map (placed (drop base stack.old.words) places.now) parts.now)) }
@@ -116,7 +110,9 @@ pub(crate) fn write_map(
 {
     for k in 0..parts.len() {
         let part = &parts[k..k + 1];
-        match write_call(m, graphs, learned, tables, called, part, places, base, stack, work) {
+        match write_call(
+            m, graphs, learned, tables, called, part, places, base, stack, work,
+        ) {
             Ok(()) => {}
             Err(singular) => return Err(singular),
         }

@@ -170,7 +170,8 @@ fn graph_lengths(alloc: Global, graph: &Graph, sizes: &[GraphSize]) -> Result<Fr
     let mut lengths = Vec::new(alloc);
     let mut total = 0;
     for (place, node) in graph.nodes.as_slice().iter().enumerate() {
-        let Some(own) = node_length(alloc, node, &[], sizes, inputs, lengths.as_slice(), total)? else {
+        let Some(own) = node_length(alloc, node, &[], sizes, inputs, lengths.as_slice(), total)?
+        else {
             return Ok(Fresh::Length { node: place as u32 });
         };
         lengths.push(own)?;

@@ -83,9 +83,11 @@ push_own-requires-clause-residues c = stands_low c.args.sizes.now (value_of c.ar
 pub push_own-requires-clause-room : goal.push_own-requires-clause-room
 push_own-requires-clause-room c =
     let node = c.node-item.result in
-    let inputs = length c.args.inputs.now in
-    (c.args.sizes.now, stands_room c.args.sizes.now (value_of c.args.m) c.args.graph.now c.args.inputs.now c.loop-place.sets.items c.loop-place.lengths.items c.loop-place.words.items c.loop-place.places.items c.loop-place.place c.loop-place.total c.loop-place.invariant.stands c.loop-place.words.items c.as_slice-before.result.now refl c.as_slice-before.ensures.value c.in_ok-own.own.set node c.in-Some.count
-    (ap (λ ls. node_length c.args.sizes.now inputs ls c.in_ok-own.own.set node) (sym c.as_slice-earlier.ensures.value) ∙ ap (λ s. node_length c.args.sizes.now inputs c.as_slice-earlier.result.now s node) (sym c.as_slice-set.ensures) ∙ sym c.in_ok-count.ensures.value ∙ c.in-Some.is))
+    let inputs = length c.args.inputs.now in (
+      c.args.sizes.now,
+      stands_room c.args.sizes.now (value_of c.args.m) c.args.graph.now c.args.inputs.now c.loop-place.sets.items c.loop-place.lengths.items c.loop-place.words.items c.loop-place.places.items c.loop-place.place c.loop-place.total c.loop-place.invariant.stands c.loop-place.words.items c.as_slice-before.result.now refl c.as_slice-before.ensures.value c.in_ok-own.own.set node c.in-Some.count
+          (ap (λ ls. node_length c.args.sizes.now inputs ls c.in_ok-own.own.set node) (sym c.as_slice-earlier.ensures.value) ∙ ap (λ s. node_length c.args.sizes.now inputs c.as_slice-earlier.result.now s node) (sym c.as_slice-set.ensures) ∙ sym c.in_ok-count.ensures.value ∙ c.in-Some.is),
+    )
 
 pub loop-place-init : goal.loop-place-init
 loop-place-init c = record {

@@ -9,7 +9,8 @@ pub graph_words-requires-clause-sound : goal.graph_words-requires-clause-sound
 graph_words-requires-clause-sound c = c.args.job.now.sound.graph (main_number c.args.job.now.graphs) c.main_graph.result.now c.main_graph.ensures
 
 pub graph_words-requires-clause-fits : goal.graph_words-requires-clause-fits
-graph_words-requires-clause-fits c =
-    (sizes_of c.args.job.now.graphs (take (main_number c.args.job.now.graphs) c.args.learned.now),
-      c.requires.each (main_number c.args.job.now.graphs) c.main_graph.result.now c.last.result.now c.main_graph.ensures
-    (ap (λ n. slice_get c.args.learned.now (n - 1)) (sym c.requires.many) ∙ c.last.ensures))
+graph_words-requires-clause-fits c = (
+  sizes_of c.args.job.now.graphs (take (main_number c.args.job.now.graphs) c.args.learned.now),
+  c.requires.each (main_number c.args.job.now.graphs) c.main_graph.result.now c.last.result.now c.main_graph.ensures
+      (ap (λ n. slice_get c.args.learned.now (n - 1)) (sym c.requires.many) ∙ c.last.ensures),
+)
