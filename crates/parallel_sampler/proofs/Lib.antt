@@ -3,3 +3,5 @@ pub mod Sums
 pub mod Counts
 pub mod BoardSteps
 pub mod Turns
+pub mod Filling
+pub mod Points

@@ -1,20 +1,31 @@
-//! The rows of small files, from their text; boards of few numbers.
+//! The rows of small files, from their text; boards of few numbers, and tables that are filled by them.
+
+ghost use Rattle.std.specs.Prelude.{◌≡◌, IfOk};
+ghost use Rattle.graph_file.specs.declared.job.Need.TheVariants.{Points};
 
 use super::*;
-use graph_eval::{Cause, Singular};
-use graph_file::{Need, read_graphs};
+use graph_eval::{Cause, Singular, Worker};
+use graph_file::{Job, Need, read_graphs};
 use learn_phase::learn;
 use prime_field::Modulus;
 use std::alloc::Global;
+use std::sync::atomic::{AtomicU64, Ordering};
 use std::test::Fail;
 
-/// The rows of the file with this text at its points, modulo `m`.
-fn rows_of(alloc: Global, text: &str, m: Modulus) -> Result<Samples, Fail> {
+/// The job of the file with this text.
+fn job_of(alloc: Global, text: &str) -> Result<Job, Fail>
+    ensures { IfOk result (λ job. job.need ≡ Points) }
+{
     let bytes = text.as_bytes();
     if bytes.len() > 16_777_216 {
         return Err(Fail::from("a long text"));
     }
-    let job = read_graphs(alloc, bytes, Need::Points)?;
+    Ok(read_graphs(alloc, bytes, Need::Points)?)
+}
+
+/// The rows of the file with this text at its points, modulo `m`.
+fn rows_of(alloc: Global, text: &str, m: Modulus) -> Result<Samples, Fail> {
+    let job = job_of(alloc, text)?;
     let learned = learn(alloc, &job)?;
     Ok(sample(alloc, &job, &learned, m, job.points.as_slice())?)
 }
@@ -68,6 +79,8 @@ fn is_shared<T: Send + Sync>() {}
 fn types_cross_threads() {
     is_shared::<Board>();
     crosses::<BoardSeat>();
+    crosses::<Table>();
+    is_shared::<OpenGate>();
     is_shared::<Samples>();
 }
 
@@ -90,5 +103,106 @@ fn seats_draw_the_numbers_in_turn(rt: HostRuntime) -> Result<(), Fail> {
 fn an_empty_board_closes_at_once(rt: HostRuntime) -> Result<(), Fail> {
     let (board, seat) = Board::new(rt.alloc(), 0)?;
     assert_eq!(rt; board.close(seat), 0);
+    Ok(())
+}
+
+/// A file of one variable, whose output 1/x has no value at the last of so many points, which is 0.
+fn with_points(alloc: Global, count: u64) -> Result<String, Fail> {
+    let mut text = String::from_str(
+        alloc,
+        "flow 1\ngraph main\ninput x\nnode r eval input = 1/x\noutput r\n",
+    )?;
+    for x in (0..count).rev() {
+        let line = format!(in alloc; "point {x}\n")?;
+        text.push_str(line.as_str())?;
+    }
+    Ok(text)
+}
+
+/// Counts the blocks that it is told of, and keeps the number of the last of them.
+#[derive(Drop)]
+struct Told {
+    blocks: AtomicU64,
+    last: AtomicU64,
+}
+
+impl Gate for Told {
+    fn block(&self, number: u64) {
+        self.blocks.fetch_add(1, Ordering::SeqCst);
+        self.last.store(number, Ordering::SeqCst);
+    }
+}
+
+#[test]
+fn work_fills_the_rows_of_its_own_blocks(rt: HostRuntime) -> Result<(), Fail> {
+    let alloc = rt.alloc();
+    let text = with_points(alloc, 33)?;
+    let job = job_of(alloc, text.as_str())?;
+    let learned = learn(alloc, &job)?;
+    let points = job.points.as_slice();
+    if points.len() != 33 {
+        return Err(Fail::from("not 33 points"));
+    }
+    let mut worker = Worker::new(alloc, &job, &learned)?;
+    let mut table = Table::new(alloc, points.len(), learned.outputs())?;
+    let (board, mut first) = Board::new(alloc, 4)?;
+    let mut other = board.split(&mut first, 1)?;
+    assert_eq!(rt; board.draw(&mut other), 0);
+    let told = Told {
+        blocks: AtomicU64::new(0),
+        last: AtomicU64::new(0),
+    };
+    let m = Modulus::first();
+    work(
+        &board,
+        &mut first,
+        &mut worker,
+        &job,
+        &learned,
+        m,
+        points,
+        &told,
+        &mut table,
+    );
+    for i in 0..33 {
+        assert_eq!(rt; table.filled(i), i == 32, "row {i}");
+    }
+    assert_eq!(rt; told.blocks.load(Ordering::SeqCst), 1);
+    assert_eq!(rt; told.last.load(Ordering::SeqCst), 1);
+    board.merge(&mut first, other);
+    assert_eq!(rt; board.close(first), 3);
+    Ok(())
+}
+
+#[test]
+fn work_of_one_seat_fills_all_rows(rt: HostRuntime) -> Result<(), Fail> {
+    let alloc = rt.alloc();
+    let text = with_points(alloc, 70)?;
+    let job = job_of(alloc, text.as_str())?;
+    let learned = learn(alloc, &job)?;
+    let points = job.points.as_slice();
+    if points.len() != 70 {
+        return Err(Fail::from("not 70 points"));
+    }
+    let mut worker = Worker::new(alloc, &job, &learned)?;
+    let mut table = Table::new(alloc, points.len(), learned.outputs())?;
+    assert!(rt; !table.filled(69));
+    let (board, mut seat) = Board::new(alloc, 4)?;
+    let m = Modulus::second();
+    work(
+        &board,
+        &mut seat,
+        &mut worker,
+        &job,
+        &learned,
+        m,
+        points,
+        &OpenGate,
+        &mut table,
+    );
+    for i in 0..70 {
+        assert!(rt; table.filled(i), "row {i}");
+    }
+    assert_eq!(rt; board.close(seat), 4);
     Ok(())
 }
