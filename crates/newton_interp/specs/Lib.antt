@@ -1,2 +1,4 @@
+pub mod Grid
+pub mod GridPoints
 pub mod Interpolation
 pub mod Stage

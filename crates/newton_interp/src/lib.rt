@@ -1,4 +1,5 @@
-//! The polynomial in one variable that has given values at given points, by Newton's form.
+//! The polynomial in one variable that has given values at given points, by Newton's form, and that in several that has
+//! given values on a grid.
 #![tactic(auto)]
 
 ghost use Rattle.std.specs.Prelude.{◌≡◌, ℕ, ◌+◌, ◌*◌, ◌<◌, ◌≤◌, List, IfOk, length, slice_index};
@@ -8,10 +9,14 @@ ghost use Rattle.univariate.specs.Coefficients.{AreResidues};
 ghost use Rattle.newton_interp.specs.Interpolation.{IsInterpolant};
 
 mod form;
+mod grid;
+mod grid_terms;
 mod passes;
 mod sums;
 
 pub use form::interpolate;
+pub use grid::{Axis, interpolate_grid, one_grid_interpolant};
+pub use grid_terms::{grid_work, newton_grid};
 use prime_field::Modulus;
 use std::alloc::Global;
 pub use sums::fused_two;
