@@ -1,5 +1,5 @@
 -- Grids: combinations of the polynomials of one axis, the places of columns, and one axis more.
-use Rattle.std.proofs.Common.{◌≡◌, ◌≢◌, ℕ, zero, suc, ◌+◌, ◌-◌, ◌*◌, ◌/◌, ◌%◌, ◌<◌, ◌≤◌, max, List, [], ◌∷◌, length, drop, slice_index, get_or, refl, sym, ◌∙◌, ap, subst, arith, inl, inr}
+use Rattle.std.proofs.Common.{◌≡◌, ◌≢◌, ℕ, zero, suc, ◌+◌, ◌-◌, ◌*◌, ◌/◌, ◌%◌, ◌<◌, ◌≤◌, List, [], ◌∷◌, length, drop, slice_index, get_or, refl, sym, ◌∙◌, ap, subst, arith, inl, inr}
 use Rattle.std.proofs.lemmas.Bool.{cases_eq, cases_lt}
 use Rattle.std.proofs.lemmas.List.{get_or-set_same, get_or-set_other, get_or-replicate, length-replicate}
 use Rattle.std.proofs.lemmas.Nat.{mul-add-lt, div-mul-add, mod-mul-add}
@@ -8,12 +8,12 @@ use Rattle.std.proofs.Math.ListN.{set, replicate}
 use Rattle.prime_field.specs.Sum.{sum_to}
 use Rattle.prime_field.proofs.Residues.{add-cong, mul-cong}
 use Rattle.prime_field.proofs.Sums.{sum-same, sum-cong, sum-add_scaled, sum-pick}
-use Rattle.univariate.specs.Univariate.{univariate_value, AreApart}
+use Rattle.univariate.specs.Univariate.{univariate_value}
 use Rattle.univariate.specs.Coefficients.{IsBelow, AreResidues}
 use Rattle.univariate.proofs.Coefficients.{at-beyond}
-use Rattle.univariate.proofs.Counting.{zero-times, alike_of_values}
+use Rattle.univariate.proofs.Counting.{alike_of_values}
 use Rattle.newton_interp.specs.Interpolation.{IsInterpolant}
-use Rattle.newton_interp.specs.Grid.{IsAxis, AreAxes, IsOneAt, AreOneAt, HasGridValues, points_of, grid_size, grid_work, listed, value_along}
+use Rattle.newton_interp.specs.Grid.{IsAxis, AreAxes, AreOneAt, HasGridValues, points_of, grid_size, grid_work, listed, value_along}
 use Rattle.newton_interp.specs.declared.grid.Axis.{Axis}
 
 -- an entry of a list in which one entry was replaced

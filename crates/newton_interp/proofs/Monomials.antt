@@ -1,8 +1,8 @@
 -- The value at a grid's point of the polynomial whose coefficients stand in the order of the places.
-use Rattle.std.proofs.Common.{◌≡◌, ◌≢◌, ℕ, zero, suc, ◌+◌, ◌-◌, ◌*◌, ◌/◌, ◌%◌, ◌^◌, ◌<◌, ◌≤◌, List, [], ◌∷◌, ◌++◌, length, drop, slice_index, get_or, refl, sym, ◌∙◌, ap, subst, arith, inl, inr}
+use Rattle.std.proofs.Common.{◌≡◌, ◌≢◌, ℕ, zero, suc, ◌+◌, ◌-◌, ◌*◌, ◌/◌, ◌%◌, ◌^◌, ◌<◌, ◌≤◌, List, [], ◌∷◌, ◌++◌, length, drop, slice_index, get_or, refl, sym, ◌∙◌, ap, subst, arith}
 use Rattle.std.proofs.lemmas.List.{length-set}
 use Rattle.std.proofs.lemmas.Nat.{mul-add-lt, mul-lt, div-mul-add, mod-mul-add}
-use Rattle.std.proofs.Math.Nat.{zero-mod, mod-mod, mod-lt, mod-eq_of_lt, div-add-mod, div-lt_iff_lt-mul, pow-suc, pow-zero}
+use Rattle.std.proofs.Math.Nat.{mod-mod, mod-lt, mod-eq_of_lt, div-add-mod, div-lt_iff_lt-mul, pow-suc, pow-zero}
 use Rattle.std.proofs.Math.ListN.{set, replicate}
 use Rattle.prime_field.specs.Sum.{sum_to}
 use Rattle.prime_field.proofs.Sums.{sum-same, sum-scaled, sum-add_scaled}

@@ -1,10 +1,9 @@
 -- Axes whose points are written out: the tests compute.
-use Rattle.std.proofs.Common.{◌≡◌, ℕ, zero, suc, ◌+◌, ◌*◌, ◌<◌, ◌≤◌, Bool, true, false, if◌then◌else◌, nat_lt, List, [], ◌∷◌, length, slice_index, refl, sym, ap, subst, arith}
+use Rattle.std.proofs.Common.{◌≡◌, ℕ, zero, suc, ◌<◌, ◌≤◌, Bool, true, false, if◌then◌else◌, nat_lt, List, [], ◌∷◌, length, slice_index, refl, sym, ap, subst, arith}
 use Rattle.std.proofs.lemmas.Bool.Decides.{nat_tests}
 use Rattle.prime_field.specs.declared.Modulus.{Modulus}
 use Rattle.prime_field.specs.declared.Modulus.TheVariants.{First, Second}
 use Rattle.prime_field.specs.Modulus.{value_of}
-use Rattle.univariate.specs.Coefficients.{AreResidues}
 use Rattle.univariate.proofs.Small.{are_near, listed-apart}
 use Rattle.newton_interp.specs.Grid.{IsAxis}
 use Rattle.newton_interp.specs.GridPoints.{IsNamed}

@@ -1,5 +1,5 @@
 -- Grids in the space of eight variables: the monomials and the points that belong to the combinations of places.
-use Rattle.std.specs.Prelude.{◌≡◌, ◌≢◌, ℕ, zero, suc, ◌+◌, ◌-◌, ◌/◌, ◌%◌, ◌<◌, ◌≤◌, List, [], ◌∷◌, ◌++◌, length, replicate, set, slice_index}
+use Rattle.std.specs.Prelude.{◌≡◌, ◌≢◌, ℕ, zero, suc, ◌-◌, ◌/◌, ◌%◌, ◌<◌, ◌≤◌, List, [], ◌∷◌, ◌++◌, length, replicate, set, slice_index}
 use Rattle.newton_interp.specs.Grid.{points_of, grid_size}
 use Rattle.newton_interp.specs.declared.grid.Axis.{Axis}
 

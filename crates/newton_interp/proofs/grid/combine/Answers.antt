@@ -1,4 +1,4 @@
-use Rattle.std.proofs.Common.{◌<◌, length, arith}
+use Rattle.std.proofs.Common.{arith}
 use Rattle.prime_field.specs.Modulus.{value_of}
 use Rattle.prime_field.proofs.Moduli.{value_of-large}
 use Rattle.newton_interp.proofs.Columns.{residues_of_places}

@@ -1,4 +1,4 @@
-use Rattle.std.proofs.Common.{◌≡◌, ℕ, ◌+◌, ◌*◌, ◌<◌, length, slice_index, arith}
+use Rattle.std.proofs.Common.{◌*◌, length, slice_index, arith}
 use Rattle.prime_field.specs.Modulus.{value_of}
 use Rattle.newton_interp.proofs.Columns.{along-axis, whole-groups, positive-product}
 use Rattle.newton_interp.proofs.grid.interpolate_axis.Goals as goal

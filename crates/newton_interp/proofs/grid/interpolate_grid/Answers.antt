@@ -1,7 +1,7 @@
-use Rattle.std.proofs.Common.{◌≡◌, ℕ, suc, ◌+◌, ◌-◌, ◌*◌, ◌<◌, ◌≤◌, List, ◌∷◌, drop, length, slice_index, sym, ◌∙◌, ap, arith}
+use Rattle.std.proofs.Common.{◌≡◌, suc, ◌-◌, ◌*◌, drop, length, sym, ◌∙◌, ap, arith}
 use Rattle.prime_field.specs.Modulus.{value_of}
 use Rattle.newton_interp.specs.Grid.{points_of, grid_size}
-use Rattle.newton_interp.proofs.Columns.{AtAxis, at-axis, points-end, none_yet, axis-done_at, all-done}
+use Rattle.newton_interp.proofs.Columns.{at-axis, points-end, none_yet, axis-done_at, all-done}
 use Rattle.newton_interp.proofs.grid.interpolate_grid.Goals as goal
 
 pub loop-k-init : goal.loop-k-init

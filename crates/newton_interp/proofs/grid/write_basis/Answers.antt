@@ -1,4 +1,4 @@
-use Rattle.std.proofs.Common.{◌≡◌, ℕ, length, slice_index, ◌∙◌, ap, arith, rules}
+use Rattle.std.proofs.Common.{◌≡◌, length, slice_index, ◌∙◌, ap, arith, rules}
 use Rattle.std.proofs.Math.ListN.{set, replicate}
 use Rattle.prime_field.specs.Modulus.{value_of}
 use Rattle.newton_interp.proofs.Columns.{one_more}

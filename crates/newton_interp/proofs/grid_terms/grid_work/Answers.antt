@@ -1,5 +1,5 @@
-use Rattle.std.proofs.Common.{◌-◌, ◌*◌, ◌+◌, length, sym, ap, arith}
-use Rattle.newton_interp.specs.Grid.{points_of, grid_work}
+use Rattle.std.proofs.Common.{◌-◌, length, sym, ap, arith}
+use Rattle.newton_interp.specs.Grid.{grid_work}
 use Rattle.newton_interp.proofs.Columns.{points-end}
 use Rattle.newton_interp.proofs.Monomials.{few-at, work-low}
 use Rattle.newton_interp.proofs.grid_terms.grid_work.Goals as goal

@@ -1,9 +1,9 @@
-use Rattle.std.proofs.Common.{◌≡◌, ℕ, ◌%◌, ◌<◌, ◌≤◌, length, slice_index, sym, ◌∙◌, subst, arith}
+use Rattle.std.proofs.Common.{length, slice_index, sym, ◌∙◌, subst, arith}
 use Rattle.std.proofs.Math.Nat.{mod-eq_of_lt}
 use Rattle.prime_field.specs.Modulus.{value_of}
 use Rattle.poly_maps.specs.Polynomial.{AreResidues, Supported}
 use Rattle.poly_maps.proofs.Moves.{Supported-coefficients}
-use Rattle.newton_interp.specs.GridPoints.{IsOnAxes, terms_below}
+use Rattle.newton_interp.specs.GridPoints.{IsOnAxes}
 use Rattle.newton_interp.proofs.Monomials.{residues-terms, supported-terms, terms-values}
 use Rattle.newton_interp.proofs.grid_terms.interpolated.Goals as goal
 
