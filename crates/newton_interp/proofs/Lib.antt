@@ -1,4 +1,5 @@
 pub mod Columns
+pub mod GridLaw
 pub mod Monomials
 pub mod Points
 pub mod Words

@@ -36,7 +36,7 @@ ignore (k ∷ e) (b ∷ x) zero t none =
     ap (λ v. v * mono_value e x) (pow-zero t ∙ sym (pow-zero b)) ∙ ap (λ j. b ^ j * mono_value e x) (sym none)
 ignore (k ∷ e) (b ∷ x) (suc p) t none = ap (λ v. b ^ k * v) (ignore e x p t none)
 
-length-exponents : (axes : List Axis) (i : ℕ) → length (exponents_at axes i) ≡ 8
+pub length-exponents : (axes : List Axis) (i : ℕ) → length (exponents_at axes i) ≡ 8
 length-exponents [] i = refl
 length-exponents (axis ∷ axes) i =
     length-set {A = ℕ} (exponents_at axes (i % grid_size (points_of axes))) (axis.variable - 1) (i / grid_size (points_of axes)) ∙
@@ -94,18 +94,17 @@ sum-blocks (suc count) size c monos inner t first step =
     (value-listed_same count (λ k. c (size + (k * size + b))) (λ k. c (suc k * size + b)) t (λ k k_low. ap c (omega arith))) ∙
     omega arith)
 
--- the values at the grid's points are those of the nested polynomials
-pub grid-value : (m : ℕ) (axes : List Axis) (c v : ℕ → ℕ) → AreNamed axes → HasGridValues m (points_of axes) c v → (i : ℕ) → i < grid_size (points_of axes) →
-    sum_to (grid_size (points_of axes)) (λ n. c n * mono_value (exponents_at axes n) (grid_point axes i)) % m ≡ v i % m
-grid-value m [] c v named has i low =
-    let first : i ≡ 0 = omega arith in
-    ap (λ t. t % m) (omega arith) ∙ has ∙ ap (λ i. v i % m) (sym first)
-grid-value m (axis ∷ axes) c v named has i low =
-    let row : i / size < n = (div-lt_iff_lt-mul {k = size} {x = i} {y = n} size_some).1 low in
-    let place : i / size * size + i % size ≡ i = omega (arith, div-add-mod i size) in
-    ap (λ s. s % m) (sum-blocks n size c monos (λ b. mono_value (exponents_at axes b) x) t first step) ∙
-    grid-value m axes (value_along n size c t) (λ b. v (i / size * size + b)) named.2 (has (i / size) row) (i % size) (mod-lt i size_some) ∙
-    ap (λ i. v i % m) place
+pub size-some : (size n i : ℕ) → i < n * size → 0 < size
+size-some zero n i low = absurd (omega arith)
+size-some (suc size) n i low = omega arith
+
+-- the sum over the combinations at a grid's point is one over those of the further axes
+pub grid-sum : (axis : Axis) (axes : List Axis) (c : ℕ → ℕ) (i : ℕ) → AreNamed (axis ∷ axes) → i < grid_size (points_of (axis ∷ axes)) →
+    sum_to (length axis.values.items * grid_size (points_of axes)) (λ n. c n * mono_value (exponents_at (axis ∷ axes) n) (grid_point (axis ∷ axes) i)) ≡
+    sum_to (grid_size (points_of axes))
+    (λ b. value_along (length axis.values.items) (grid_size (points_of axes)) c (slice_index axis.values.items (i / grid_size (points_of axes))) b *
+    mono_value (exponents_at axes b) (grid_point axes (i % grid_size (points_of axes))))
+grid-sum axis axes c i named low = sum-blocks n size c monos (λ b. mono_value (exponents_at axes b) x) t first step
   where
     size : ℕ
     size = grid_size (points_of axes)
@@ -125,12 +124,8 @@ grid-value m (axis ∷ axes) c v named has i low =
     monos : ℕ → ℕ
     monos k = mono_value (exponents_at (axis ∷ axes) k) (set x p t)
 
-    positive : (size n i : ℕ) → i < n * size → 0 < size
-    positive zero n i low = absurd (omega arith)
-    positive (suc size) n i low = omega arith
-
     size_some : 0 < size
-    size_some = positive size n i low
+    size_some = size-some size n i low
 
     within : (k : ℕ) → p < length (exponents_at axes k)
     within k = omega (arith, length-exponents axes k, named.0.first, named.0.last)
@@ -153,6 +148,22 @@ grid-value m (axis ∷ axes) c v named has i low =
         raise (exponents_at axes (k % size)) (set x p t) p (k / size) (within (k % size)) ∙
         ap (λ s. s * monos k) entry
 
+-- the values at the grid's points are those of the nested polynomials
+pub grid-value : (m : ℕ) (axes : List Axis) (c v : ℕ → ℕ) → AreNamed axes → HasGridValues m (points_of axes) c v → (i : ℕ) → i < grid_size (points_of axes) →
+    sum_to (grid_size (points_of axes)) (λ n. c n * mono_value (exponents_at axes n) (grid_point axes i)) % m ≡ v i % m
+grid-value m [] c v named has i low =
+    let first : i ≡ 0 = omega arith in
+    ap (λ t. t % m) (omega arith) ∙ has ∙ ap (λ i. v i % m) (sym first)
+grid-value m (axis ∷ axes) c v named has i low =
+    let size = grid_size (points_of axes) in
+    let n = length axis.values.items in
+    let some : 0 < size = size-some size n i low in
+    let row : i / size < n = (div-lt_iff_lt-mul {k = size} {x = i} {y = n} some).1 low in
+    let place : i / size * size + i % size ≡ i = omega (arith, div-add-mod i size) in
+    ap (λ s. s % m) (grid-sum axis axes c i named low) ∙
+    grid-value m axes (value_along n size c (slice_index axis.values.items (i / size))) (λ b. v (i / size * size + b)) named.2 (has (i / size) row) (i % size) (mod-lt i some) ∙
+    ap (λ i. v i % m) place
+
 -- the terms of the first combinations
 value-terms : (axes : List Axis) (c : ℕ → ℕ) (n : ℕ) (x : List ℕ) → value_at (terms_below axes c n) x ≡ sum_to n (λ k. c k * mono_value (exponents_at axes k) x)
 value-terms axes c zero x = refl
@@ -168,7 +179,7 @@ residues-terms m axes c zero low = tt
 residues-terms m axes c (suc n) low = residues-append m (terms_below axes c n) ((exponents_at axes n, c n) ∷ []) (residues-terms m axes c n low) (low n, tt)
 
 -- the exponents of a combination
-below-set : (axes : List Axis) (e : List ℕ) (variable a : ℕ) → 1 ≤ variable → AreNamed axes → IsAbsent variable axes → AreBelow axes e → AreBelow axes (set e (variable - 1) a)
+pub below-set : (axes : List Axis) (e : List ℕ) (variable a : ℕ) → 1 ≤ variable → AreNamed axes → IsAbsent variable axes → AreBelow axes e → AreBelow axes (set e (variable - 1) a)
 below-set [] e variable a some named absent below = tt
 below-set (axis ∷ axes) e variable a some named absent below =
     let other : axis.variable - 1 ≢ variable - 1 = apart variable axis.variable some named.0.first absent.0 in (
@@ -198,12 +209,8 @@ on-axes (axis ∷ axes) i named low =
     size : ℕ
     size = grid_size (points_of axes)
 
-    positive : (size n i : ℕ) → i < n * size → 0 < size
-    positive zero n i low = absurd (omega arith)
-    positive (suc size) n i low = omega arith
-
     size_some : 0 < size
-    size_some = positive size (length axis.values.items) i low
+    size_some = size-some size (length axis.values.items) i low
 
     apart : (k v : ℕ) → 1 ≤ v → v ≢ suc k → k ≢ v - 1
     apart k v some differ same = differ (omega arith)

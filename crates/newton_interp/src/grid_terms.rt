@@ -1,10 +1,12 @@
 //! The polynomial in eight variables that has given values on a grid, term by term.
 
-ghost use Rattle.std.specs.Prelude.{◌≡◌, ℕ, ◌+◌, ◌%◌, ◌<◌, ◌≤◌, IfOk, length, slice_index};
+ghost use Rattle.std.specs.Prelude.{◌≡◌, ℕ, ◌+◌, ◌%◌, ◌<◌, ◌≤◌, List, IfOk, length, slice_index};
 ghost use Rattle.prime_field.specs.Modulus.{value_of};
 ghost use Rattle.univariate.specs.Coefficients.{AreResidues as AreResidueWords};
-ghost use Rattle.poly_maps.specs.Polynomial.{value_at, AreResidues, IsPolynomial, Supported};
+ghost use Rattle.poly_maps.specs.Mono.{HasEight};
+ghost use Rattle.poly_maps.specs.Polynomial.{coefficient, value_at, AreResidues, IsPolynomial, Supported};
 ghost use Rattle.newton_interp.specs.Grid.{AreAxes, points_of, grid_size, grid_work};
+ghost use Rattle.newton_interp.specs.declared.grid.Axis.{Axis};
 ghost use Rattle.newton_interp.specs.GridPoints.{AreNamed, IsOnAxes, exponents_at, grid_point, terms_below};
 
 use crate::NoMemory;
@@ -61,6 +63,15 @@ fn interpolated(
     let polynomial = Poly::from_terms(m, terms)?;
     Ok(polynomial)
 }
+
+/// Two polynomials in the axes' variables with the same values at the grid's points, each of lower degree in each axis's
+/// variable than the number of its points, are the same, coefficient by coefficient. It holds at every modulus but 0.
+pub fn one_grid_polynomial()
+    ensures { (m : ℕ) (axes : List Axis) (p q : List (List ℕ × ℕ)) → 0 < m → AreNamed axes → AreAxes m (points_of axes) →
+        Supported HasEight p → Supported HasEight q → Supported (IsOnAxes axes) p → Supported (IsOnAxes axes) q →
+        ((i : ℕ) → i < grid_size (points_of axes) → value_at p (grid_point axes i) % m ≡ value_at q (grid_point axes i) % m) →
+        (e : List ℕ) → coefficient e p % m ≡ coefficient e q % m }
+{}
 
 /// The words of work that `interpolate_grid` wants.
 pub fn grid_work(axes: &[Axis]) -> usize

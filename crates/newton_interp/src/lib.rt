@@ -16,7 +16,7 @@ mod sums;
 
 pub use form::interpolate;
 pub use grid::{Axis, interpolate_grid, one_grid_interpolant};
-pub use grid_terms::{grid_work, newton_grid};
+pub use grid_terms::{grid_work, newton_grid, one_grid_polynomial};
 use prime_field::Modulus;
 use std::alloc::Global;
 pub use sums::fused_two;
