@@ -147,6 +147,7 @@ first_bad need bytes line kinds.NoMemory other refused = absurd (other refl)
 first_bad need bytes line kinds.Syntax other refused = refused
 first_bad need bytes line kinds.Version other refused = refused
 first_bad need bytes line kinds.Repeated other refused = refused
+first_bad need bytes line kinds.UnknownGraph other refused = refused
 first_bad need bytes line kinds.UnknownNode other refused = refused
 first_bad need bytes line kinds.Residue other refused = refused
 first_bad need bytes line kinds.Limit other refused = refused

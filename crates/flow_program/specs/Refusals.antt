@@ -4,7 +4,7 @@ use Rattle.std.specs.Fmt.{decimal}
 use Rattle.ratfun_text.specs.declared.parse.ExprKind.{ExprKind}
 use Rattle.ratfun_text.specs.declared.parse.ExprKind.TheVariants as expression
 use Rattle.graph_file.specs.declared.error.FileKind.{FileKind}
-use Rattle.graph_file.specs.declared.error.FileKind.TheVariants.{Syntax, Version, Repeated, UnknownNode, Residue, Limit, Expr, Missing, NoMemory}
+use Rattle.graph_file.specs.declared.error.FileKind.TheVariants.{Syntax, Version, Repeated, UnknownGraph, UnknownNode, Residue, Limit, Expr, Missing, NoMemory}
 use Rattle.graph_file.specs.declared.graph.Graph.{Graph}
 use Rattle.graph_file.specs.declared.graph.Source.{Source}
 use Rattle.graph_file.specs.declared.graph.Source.TheVariants as source
@@ -25,6 +25,7 @@ abbrev pub line_words : FileKind → List ℕ
 line_words Syntax = codes "syntax"
 line_words Version = codes "version"
 line_words Repeated = codes "repeated"
+line_words UnknownGraph = codes "unknown graph"
 line_words UnknownNode = codes "unknown node"
 line_words Residue = codes "residue"
 line_words Limit = codes "limit"

@@ -30,6 +30,7 @@ fn push_line_words(text: &mut Vec<u8>, kind: FileKind) -> Result<(), AllocError>
         FileKind::Syntax => b"syntax",
         FileKind::Version => b"version",
         FileKind::Repeated => b"repeated",
+        FileKind::UnknownGraph => b"unknown graph",
         FileKind::UnknownNode => b"unknown node",
         FileKind::Residue => b"residue",
         FileKind::Limit => b"limit",

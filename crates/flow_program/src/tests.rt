@@ -373,6 +373,10 @@ fn the_first_bad_line_is_told_with_its_kind(rt: HostRuntime) -> Result<(), Fail>
             "flow: line 5: repeated\n",
         ),
         (
+            "flow 1\ngraph main\ninput x y\nnode t call main input\n",
+            "flow: line 4: unknown graph\n",
+        ),
+        (
             "flow 1\ngraph main\ninput x y\nnode t take a 3\n",
             "flow: line 4: unknown node\n",
         ),

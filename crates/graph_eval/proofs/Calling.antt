@@ -18,10 +18,9 @@ use Rattle.graph_eval.specs.declared.learned.GraphLearned.{GraphLearned}
 use Rattle.graph_eval.specs.declared.outcome.Singular.{Singular}
 use Rattle.graph_eval.specs.GraphValue.{GivesFirst, GraphValue, IsStopped, SingularAt, Value}
 use Rattle.graph_eval.specs.Learned.{sets_of}
-use Rattle.graph_eval.specs.Needs.{words_at, words_for}
+use Rattle.graph_eval.specs.Needs.{greatest_extra, words_at, words_below, words_for}
 use Rattle.graph_eval.specs.Reading.{HasLength, IsThere, placed, start_of, stop_of}
 use Rattle.graph_eval.specs.Stacked.{AreCalled, IsCalled, IsReady, IsReplaced}
-use Rattle.graph_eval.specs.Systems.{greatest_work}
 use Rattle.graph_eval.proofs.Listed.{run_there}
 
 -- lists that are there stay where they are where more words stand behind them
@@ -53,7 +52,8 @@ one_part parts k d below =
 -- a graph's inputs are among the words that it needs
 pub inputs_fit : (graphs : List Graph) (learned : List GraphLearned) (number : ℕ) (graph : Graph) (entry : GraphLearned) → slice_get graphs number ≡ Some graph → slice_get learned number ≡ Some entry → length graph.inputs ≤ words_for graphs learned number
 inputs_fit graphs learned number graph entry is entry_is =
-    let words : words_for graphs learned number ≡ length graph.inputs + sum entry.lengths + greatest_work graph.nodes = ap (λ o. words_at o (slice_get learned number)) is ∙ ap (words_at (Some graph)) entry_is in
+    let words : words_for graphs learned number ≡ length graph.inputs + sum entry.lengths + greatest_extra (words_below graphs learned number) graph.nodes =
+    ap (λ o. words_at (words_below graphs learned number) o (slice_get learned number)) is ∙ ap (words_at (words_below graphs learned number) (Some graph)) entry_is in
     omega arith
 
 -- with its inputs on top the graph is ready, and what it then gives stands behind the words below

@@ -10,7 +10,7 @@ use Rattle.std.proofs.Math.ListN.{get_or-append}
 use Rattle.graph_file.specs.declared.graph.Graph.{Graph}
 use Rattle.graph_file.specs.declared.graph.Node.{Node}
 use Rattle.graph_file.specs.declared.graph.NodeKind.{NodeKind}
-use Rattle.graph_file.specs.declared.graph.NodeKind.TheVariants.{Eval, Take, Slice, Chain, Sum, Product, Matmul, Dense, Sparse}
+use Rattle.graph_file.specs.declared.graph.NodeKind.TheVariants.{Eval, Take, Slice, Chain, Sum, Product, Matmul, Dense, Sparse, Call, Memo, Map}
 use Rattle.graph_file.specs.declared.graph.Source.{Source}
 use Rattle.graph_eval.specs.declared.outcome.Cause.{Cause}
 use Rattle.graph_eval.specs.GraphValue.{Meaning, Outcome, SingularAt, named, KindGives, KindFails, NodeGives, NodeFails, FirstLists, GraphMeans, GraphValue, MeansAt, meanings}
@@ -19,7 +19,7 @@ use Rattle.graph_eval.specs.Learned.{sets_of}
 use Rattle.graph_eval.specs.declared.learned.GraphLearned.{GraphLearned}
 use Rattle.prime_field.specs.Residue.{IsPrime}
 
--- What a node answers doesn't rest on other graphs, as long as no kind of node calls one.
+-- Where no graph means anything, what a node answers doesn't rest on other graphs.
 gives_alone : (m : ℕ) (called : ℕ → Meaning) (learned : List ℕ) (list : Source → List ℕ) (kind : NodeKind) (values : List ℕ) → KindGives m no_graphs learned list kind values → KindGives m called learned list kind values
 gives_alone m called learned list (Eval from exprs) values gives = gives
 gives_alone m called learned list (Take parts) values gives = gives
@@ -30,6 +30,14 @@ gives_alone m called learned list (Product parts) values gives = gives
 gives_alone m called learned list (Matmul left right rows mid cols) values gives = gives
 gives_alone m called learned list (Dense from rows unknowns want) values gives = gives
 gives_alone m called learned list (Sparse from unknowns want rows) values gives = gives
+gives_alone m called learned list (Call graph parts) values gives = absurd gives
+gives_alone m called learned list (Memo graph parts) values gives = absurd gives
+gives_alone m called learned list (Map graph parts) values gives = record {
+  outs = gives.outs;
+  first = record { within = gives.first.within; each = λ n below. absurd (gives.first.each n below) };
+  all = gives.all;
+  values_are = gives.values_are;
+}
 
 pub fails_alone : (m : ℕ) (called : ℕ → Meaning) (learned : List ℕ) (list : Source → List ℕ) (kind : NodeKind) (cause : Cause) → KindFails m no_graphs learned list kind cause → KindFails m called learned list kind cause
 fails_alone m called learned list (Eval from exprs) cause fails = fails
@@ -41,6 +49,9 @@ fails_alone m called learned list (Product parts) cause fails = fails
 fails_alone m called learned list (Matmul left right rows mid cols) cause fails = fails
 fails_alone m called learned list (Dense from rows unknowns want) cause fails = fails
 fails_alone m called learned list (Sparse from unknowns want rows) cause fails = fails
+fails_alone m called learned list (Call graph parts) cause fails = absurd fails.1
+fails_alone m called learned list (Memo graph parts) cause fails = absurd fails.1
+fails_alone m called learned list (Map graph parts) cause fails = absurd fails.singular
 
 needed_alone : (m : ℕ) (called : ℕ → Meaning) (learned : List ℕ) (list : Source → List ℕ) (kind : NodeKind) (values : List ℕ) (needed : Bool) → MatchBool needed (KindGives m no_graphs learned list kind values) (values ≡ []) → MatchBool needed (KindGives m called learned list kind values) (values ≡ [])
 needed_alone m called learned list kind values true gives = gives_alone m called learned list kind values gives
@@ -98,13 +109,6 @@ ListsSoFar-longer m called nodes inputs sets others lengths longer lists count s
   many = so_far.many;
   residues = so_far.residues;
   rooms = so_far.rooms ∙ lengths_same;
-}
-
--- what a graph means doesn't rest on other graphs either
-pub FirstLists-alone : (m : ℕ) (called : ℕ → Meaning) (learned : List (List ℕ)) (nodes : List Node) (inputs : List ℕ) (lists : List (List ℕ)) → FirstLists m no_graphs learned nodes inputs lists → FirstLists m called learned nodes inputs lists
-FirstLists-alone m called learned nodes inputs lists first = record {
-  within = first.within;
-  each = λ n node below is. alone m called (slice_index_or learned n []) (named inputs (take n lists)) node (slice_index_or lists n []) (first.each n node below is);
 }
 
 -- a needed node without a value makes the graph singular

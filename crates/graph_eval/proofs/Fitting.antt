@@ -57,3 +57,9 @@ point_inputs graphs points k point sound at = at_main (slice_get graphs (main_nu
     at_main : (main : Option Graph) → slice_get graphs (main_number graphs) ≡ main → HasInputs main point
     at_main None none = let there = stands graphs (main_number graphs) (omega (arith, sound.main)) in let both : Some there.0 ≡ None = sym there.1 ∙ none in cc
     at_main (Some graph) is = sound.entries k point graph at is
+
+-- what was learned of so many graphs was learned of as many as there are entries
+pub fits_known : {count : ℕ} (graphs : List Graph) (learned : List GraphLearned) (shown : List Graph) (known : List GraphLearned) → shown ≡ graphs → known ≡ learned → FitsFirst graphs learned count → FitsFirst shown known (length known)
+fits_known graphs learned shown known shown_is known_is fits =
+    subst (λ (gs : List Graph). FitsFirst gs known (length known)) (sym shown_is)
+    (subst (λ (ls : List GraphLearned). FitsFirst graphs ls (length ls)) (sym known_is) (record { many = refl; each = fits.each }))

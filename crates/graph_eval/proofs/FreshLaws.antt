@@ -20,26 +20,26 @@ use Rattle.graph_eval.specs.declared.fresh.Fresh.{Fresh}
 use Rattle.graph_eval.specs.declared.fresh.Fresh.TheVariants as fresh
 use Rattle.graph_eval.specs.declared.learned.GraphLearned.{GraphLearned}
 use Rattle.graph_eval.specs.declared.outcome.Cause.{Cause}
-use Rattle.graph_eval.specs.Evaluated.{IsNeededNode, no_graphs}
+use Rattle.graph_eval.specs.Evaluated.{IsNeededNode}
 use Rattle.graph_eval.specs.Fresh.{BreaksLength, FirstLearned, HasNoValue, IsFresh, IsLearned, IsReached, NodeLearns}
 use Rattle.graph_eval.specs.GraphValue.{Meaning, NodeFails, NodeGives, named}
 use Rattle.graph_file.specs.declared.graph.Source.{Source}
 use Rattle.graph_eval.specs.Reading.{AreListed, IsThere, placed, places_of}
 use Rattle.graph_eval.specs.Stacked.{IsAdded}
 use Rattle.graph_eval.specs.Learned.{ArePlans, FitsGraph, HasOwnLength, IsSetFor, joined_length, kind_length, named_length, node_length}
-use Rattle.graph_eval.proofs.EvaluationLaws.{FirstLists-alone, ListsSoFar, ListsSoFar-longer, fails_alone, goes_on}
+use Rattle.graph_eval.proofs.EvaluationLaws.{ListsSoFar, ListsSoFar-longer, goes_on}
 use Rattle.graph_eval.proofs.Listed.{named_placed, places-push, table_room, table_sound, table_there}
 use Rattle.graph_eval.proofs.LengthLaws.{LengthsSoFar, LengthsSoFar-none, LengthsSoFar-sets, PlansSoFar, fits_graph, one_more, plans_all}
 use Rattle.graph_eval.specs.declared.shapes.GraphSize.{GraphSize}
 
-module _ (sizes : List GraphSize) where
+module _ (sizes : List GraphSize) (called : ℕ → Meaning) where
   -- what was learned of the first so many nodes
   pub record LearnedSoFar (m : ℕ) (graph : Graph) (inputs : List ℕ) (sets : List (List ℕ)) (lengths : List ℕ) (lists : List (List ℕ)) (count total : ℕ) : Type 0 where
     pub many : length sets ≡ count
     pub fits : (n : ℕ) (node : Node) → n < count → slice_get graph.nodes n ≡ Some node → IsSetFor node (slice_index_or sets n [])
     pub own : IsPrime m → (n : ℕ) (node : Node) → n < count → slice_get graph.nodes n ≡ Some node → NodeLearns m (named inputs (take n lists)) node (slice_index_or sets n [])
     pub measured : LengthsSoFar sizes graph sets lengths count total
-    pub given : ListsSoFar m no_graphs graph.nodes inputs sets lengths lists count
+    pub given : ListsSoFar m called graph.nodes inputs sets lengths lists count
 
   pub LearnedSoFar-none : (m : ℕ) (graph : Graph) (inputs : List ℕ) → LearnedSoFar m graph inputs [] [] [] 0 0
   LearnedSoFar-none m graph inputs = record {
@@ -56,7 +56,7 @@ module _ (sizes : List GraphSize) where
   }
 
   -- where m is prime they are those of the definition
-  first_learned : (m : ℕ) (graph : Graph) (inputs : List ℕ) (sets : List (List ℕ)) (lengths : List ℕ) (lists : List (List ℕ)) (count total : ℕ) → LearnedSoFar m graph inputs sets lengths lists count total → IsPrime m → FirstLearned m no_graphs sizes graph inputs sets lengths lists
+  first_learned : (m : ℕ) (graph : Graph) (inputs : List ℕ) (sets : List (List ℕ)) (lengths : List ℕ) (lists : List (List ℕ)) (count total : ℕ) → LearnedSoFar m graph inputs sets lengths lists count total → IsPrime m → FirstLearned m called sizes graph inputs sets lengths lists
   first_learned m graph inputs sets lengths lists count total so_far prime = record {
     many_sets = so_far.many ∙ sym so_far.given.many;
     many_lengths = so_far.measured.many ∙ sym so_far.given.many;
@@ -137,7 +137,7 @@ module _ (sizes : List GraphSize) where
   -- the next node
   module _ (m : ℕ) (graph : Graph) (inputs : List ℕ) (sets : List (List ℕ)) (lengths : List ℕ) (lists : List (List ℕ)) (place total : ℕ) (node : Node) (set : List ℕ) (so_far : LearnedSoFar m graph inputs sets lengths lists place total) (is : slice_get graph.nodes place ≡ Some node)
       (own : IsPrime m → NodeLearns m (named inputs lists) node set) (count : ℕ) (count_is : count ≡ length graph.inputs) (earlier : List ℕ) (earlier_is : earlier ≡ lengths) (answer : Option ℕ) (answer_is : answer ≡ node_length sizes count earlier set node) where
-    reached : IsPrime m → IsReached m no_graphs sizes graph inputs place
+    reached : IsPrime m → IsReached m called sizes graph inputs place
     reached prime = record {
       sets = sets;
       lengths = lengths;
@@ -153,19 +153,19 @@ module _ (sizes : List GraphSize) where
     rule : node_length sizes (length graph.inputs) lengths set node ≡ answer
     rule = ap (λ n. node_length sizes n lengths set node) (sym count_is) ∙ ap (λ ls. node_length sizes count ls set node) (sym earlier_is) ∙ sym answer_is
 
-    pub breaks_here : answer ≡ None → IsPrime m → BreaksLength m no_graphs sizes graph inputs place
+    pub breaks_here : answer ≡ None → IsPrime m → BreaksLength m called sizes graph inputs place
     unfolding reached
     breaks_here none prime = record { reached = reached prime; breaks = rule ∙ none }
 
     pub breaks_needed : answer ≡ None → IsNeededNode graph place
     breaks_needed none = (node, is, needed_length (length graph.inputs) lengths set node node.needed refl (rule ∙ none))
 
-    pub singular_here : (length_is : ℕ) (cause : Cause) → answer ≡ Some length_is → (IsPrime m → NodeFails m no_graphs set (named inputs lists) node cause) → IsPrime m → HasNoValue m no_graphs sizes graph inputs place cause
+    pub singular_here : (length_is : ℕ) (cause : Cause) → answer ≡ Some length_is → (IsPrime m → NodeFails m called set (named inputs lists) node cause) → IsPrime m → HasNoValue m called sizes graph inputs place cause
     unfolding reached
     singular_here length_is cause some fails prime = record { reached = reached prime; own_length = length_is; measured = rule ∙ some; fails = fails prime }
 
     pub learned_more : (own_length : ℕ) (values : List ℕ) (more_sets : List (List ℕ)) (more_lengths : List ℕ) (more_lists : List (List ℕ)) → IsSetFor node set → answer ≡ Some own_length → IfSome answer (λ n. n ≤ 262144) → IfSome answer (λ n. total + n ≤ 2097152)
-        → (IsPrime m → NodeGives m no_graphs set (named inputs lists) node values) → All (λ x. x < m) values → length values ≡ own_length
+        → (IsPrime m → NodeGives m called set (named inputs lists) node values) → All (λ x. x < m) values → length values ≡ own_length
         → more_sets ≡ sets ++ set ∷ [] → more_lengths ≡ lengths ++ own_length ∷ [] → more_lists ≡ lists ++ values ∷ [] → LearnedSoFar m graph inputs more_sets more_lengths more_lists (place + 1) (total + own_length)
     learned_more own_length values more_sets more_lengths more_lists fits some small bound gives low long sets_joined lengths_joined lists_joined =
         let same : (n : ℕ) → n < place → slice_index_or sets n [] ≡ slice_index_or more_sets n [] = λ n below. set_before sets more_sets set sets_joined n (omega (arith, so_far.many)) in
@@ -191,7 +191,7 @@ module _ (sizes : List GraphSize) where
                 (subst (NodeLearns m (named inputs (take n lists)) other) (same n (omega arith)) (so_far.own prime n other (omega arith) other_is))
           ];
           measured = one_more sizes graph more_sets lengths place total count earlier set node answer (LengthsSoFar-sets sizes graph sets more_sets lengths place total same so_far.measured) is count_is earlier_is here answer_is own_length more_lengths some small bound lengths_joined;
-          given = goes_on m no_graphs graph.nodes inputs more_sets more_lengths lists more_lists place own_length set node values (ListsSoFar-longer m no_graphs graph.nodes inputs sets more_sets lengths more_lengths lists place same front so_far.given) is here gives low long room at lists_joined;
+          given = goes_on m called graph.nodes inputs more_sets more_lengths lists more_lists place own_length set node values (ListsSoFar-longer m called graph.nodes inputs sets more_sets lengths more_lengths lists place same front so_far.given) is here gives low long room at lists_joined;
         }
       where
         same_node : (n : ℕ) (other : Node) → n ≡ place → slice_get graph.nodes n ≡ Some other → node ≡ other
@@ -206,7 +206,7 @@ module _ (sizes : List GraphSize) where
   -- one node more stands there
   pub LearnedStand-more : (m : ℕ) (graph : Graph) (inputs : List ℕ) (sets : List (List ℕ)) (lengths words places : List ℕ) (place total : ℕ) (stands : LearnedStand m graph inputs sets lengths words places place total) (node : Node) (set : List ℕ) (list : Source → List ℕ) → slice_get graph.nodes place ≡ Some node
       → list ≡ named inputs stands.lists → (IsPrime m → NodeLearns m list node set) → (count : ℕ) → count ≡ length graph.inputs → (earlier : List ℕ) → earlier ≡ lengths → (answer : Option ℕ) → answer ≡ node_length sizes count earlier set node
-      → (own_length : ℕ) (more_sets : List (List ℕ)) (more_lengths new more_places : List ℕ) → IsSetFor node set → answer ≡ Some own_length → IfSome answer (λ n. n ≤ 262144) → IfSome answer (λ n. total + n ≤ 2097152) → IsAdded m no_graphs set list node own_length words new
+      → (own_length : ℕ) (more_sets : List (List ℕ)) (more_lengths new more_places : List ℕ) → IsSetFor node set → answer ≡ Some own_length → IfSome answer (λ n. n ≤ 262144) → IfSome answer (λ n. total + n ≤ 2097152) → IsAdded m called set list node own_length words new
       → more_sets ≡ sets ++ set ∷ [] → more_lengths ≡ lengths ++ own_length ∷ [] → more_places ≡ places ++ (length inputs + (total + own_length)) ∷ [] → LearnedStand m graph inputs more_sets more_lengths new more_places (place + 1) (total + own_length)
   LearnedStand-more m graph inputs sets lengths words places place total stands node set list is list_is own count count_is earlier earlier_is answer answer_is own_length more_sets more_lengths new more_places fits some small bound added sets_joined lengths_joined places_joined =
       let values : List ℕ = added.values in
@@ -214,7 +214,7 @@ module _ (sizes : List GraphSize) where
       record {
         lists = stands.lists ++ values ∷ [];
         so_far = learned_more m graph inputs sets lengths stands.lists place total node set so_far is (λ prime. subst (λ (l : Source → List ℕ). NodeLearns m l node set) list_is (own prime)) count count_is earlier earlier_is answer answer_is own_length values more_sets more_lengths (stands.lists ++ values ∷ []) fits some small bound
-            (λ prime. subst (λ (l : Source → List ℕ). NodeGives m no_graphs set l node values) list_is (added.gives prime)) added.low added.long sets_joined lengths_joined refl;
+            (λ prime. subst (λ (l : Source → List ℕ). NodeGives m called set l node values) list_is (added.gives prime)) added.low added.long sets_joined lengths_joined refl;
         words_are = added.words ∙ ap (λ xs. xs ++ values) stands.words_are ∙ append_assoc inputs (chained stands.lists) values ∙ ap (λ xs. inputs ++ xs) (sym (chained-more stands.lists values));
         places_are = places_joined ∙ ap (λ ps. ps ++ (length inputs + (total + own_length)) ∷ []) stands.places_are ∙ ap (λ n. places_of (length inputs) lengths ++ (length inputs + (n + own_length)) ∷ []) so_far.measured.total_is
             ∙ sym (places-push (length inputs) lengths own_length) ∙ ap (places_of (length inputs)) (sym lengths_joined);
@@ -226,10 +226,10 @@ module _ (sizes : List GraphSize) where
     have_plans : ArePlans graph.nodes sets learned.plans
     have_plans = subst (ArePlans graph.nodes sets) (sym plans_are) (plans_all graph.nodes sets plans place planned all)
 
-    pub learned_all : learned.point ≡ None → IsPrime m → IsLearned m no_graphs sizes graph inputs learned
+    pub learned_all : learned.point ≡ None → IsPrime m → IsLearned m called sizes graph inputs learned
     learned_all no_point prime = record {
       lists = lists;
-      first = subst (λ (ss : List (List ℕ)). FirstLearned m no_graphs sizes graph inputs ss learned.lengths lists) (sym sets_are) (subst (λ (ls : List ℕ). FirstLearned m no_graphs sizes graph inputs sets ls lists) (sym lengths_are) (first_learned m graph inputs sets lengths lists place total so_far prime));
+      first = subst (λ (ss : List (List ℕ)). FirstLearned m called sizes graph inputs ss learned.lengths lists) (sym sets_are) (subst (λ (ls : List ℕ). FirstLearned m called sizes graph inputs sets ls lists) (sym lengths_are) (first_learned m graph inputs sets lengths lists place total so_far prime));
       all = so_far.given.many ∙ all;
       plans = subst (λ (ss : List (List ℕ)). ArePlans graph.nodes ss learned.plans) (sym sets_are) have_plans;
       output = output_is ∙ ap (λ n. named_length n lengths graph.output) count_is ∙ ap (λ ls. named_length (length graph.inputs) ls graph.output) (sym lengths_are);
@@ -238,44 +238,3 @@ module _ (sizes : List GraphSize) where
 
     pub learned_fits : FitsGraph sizes graph learned
     learned_fits = fits_graph sizes graph sets lengths place total count learned so_far.measured all count_is so_far.many so_far.fits have_plans sets_are lengths_are output_is
-
-  -- what is learned of a graph doesn't rest on other graphs
-  first_alone : (m : ℕ) (called : ℕ → Meaning) (graph : Graph) (inputs : List ℕ) (sets : List (List ℕ)) (lengths : List ℕ) (lists : List (List ℕ)) → FirstLearned m no_graphs sizes graph inputs sets lengths lists → FirstLearned m called sizes graph inputs sets lengths lists
-  first_alone m called graph inputs sets lengths lists first = record {
-    many_sets = first.many_sets;
-    many_lengths = first.many_lengths;
-    own = first.own;
-    measured = first.measured;
-    given = FirstLists-alone m called sets graph.nodes inputs lists first.given;
-  }
-
-  reached_alone : (m : ℕ) (called : ℕ → Meaning) (graph : Graph) (inputs : List ℕ) (n : ℕ) → IsReached m no_graphs sizes graph inputs n → IsReached m called sizes graph inputs n
-  reached_alone m called graph inputs n is = record {
-    sets = is.sets;
-    lengths = is.lengths;
-    lists = is.lists;
-    first = first_alone m called graph inputs is.sets is.lengths is.lists is.first;
-    before = is.before;
-    node = is.node;
-    is_node = is.is_node;
-    set = is.set;
-    own = is.own;
-  }
-
-  pub fresh_alone : (m : ℕ) (called : ℕ → Meaning) (graph : Graph) (inputs : List ℕ) (answer : Fresh) → IsFresh m no_graphs sizes graph inputs answer → IsFresh m called sizes graph inputs answer
-  unfolding reached_alone
-  fresh_alone m called graph inputs (fresh.Learned learned) is = record {
-    lists = is.lists;
-    first = first_alone m called graph inputs learned.sets learned.lengths is.lists is.first;
-    all = is.all;
-    plans = is.plans;
-    output = is.output;
-    point = is.point;
-  }
-  fresh_alone m called graph inputs (fresh.Singular singular) is = record {
-    reached = reached_alone m called graph inputs singular.node is.reached;
-    own_length = is.own_length;
-    measured = is.measured;
-    fails = (is.fails.0, fails_alone m called is.reached.set (named inputs is.reached.lists) is.reached.node.kind singular.cause is.fails.1);
-  }
-  fresh_alone m called graph inputs (fresh.Length node) is = record { reached = reached_alone m called graph inputs node is.reached; breaks = is.breaks }

@@ -1,6 +1,8 @@
 mod Calling
+mod Adding
 pub mod EvaluationLaws
 pub mod Fitting
+mod Framed
 mod FreshLaws
 mod Gathered
 pub mod LengthLaws
@@ -21,5 +23,6 @@ mod SparseLaws
 mod Standing
 pub mod SystemLaws
 mod Tables
+mod Wanted
 mod Working
 mod Writing

@@ -9,7 +9,7 @@ use Rattle.elim_core.proofs.OwnSets.{own_set_once}
 use Rattle.graph_file.specs.declared.graph.Graph.{Graph}
 use Rattle.graph_file.specs.declared.graph.Node.{Node}
 use Rattle.graph_file.specs.declared.graph.NodeKind.{NodeKind}
-use Rattle.graph_file.specs.declared.graph.NodeKind.TheVariants.{Eval, Take, Slice, Chain, Sum, Product, Matmul, Dense, Sparse}
+use Rattle.graph_file.specs.declared.graph.NodeKind.TheVariants.{Eval, Take, Slice, Chain, Sum, Product, Matmul, Dense, Sparse, Call, Memo, Map}
 use Rattle.graph_file.specs.declared.graph.Source.{Source}
 use Rattle.graph_eval.specs.declared.fresh.Fresh.{Fresh}
 use Rattle.graph_eval.specs.declared.fresh.Fresh.TheVariants as fresh
@@ -38,6 +38,9 @@ kind_learns m list (Chain parts) a b first second = first ∙ sym second
 kind_learns m list (Sum parts) a b first second = first ∙ sym second
 kind_learns m list (Product parts) a b first second = first ∙ sym second
 kind_learns m list (Matmul left right rows mid cols) a b first second = first ∙ sym second
+kind_learns m list (Call graph parts) a b first second = first ∙ sym second
+kind_learns m list (Memo graph parts) a b first second = first ∙ sym second
+kind_learns m list (Map graph parts) a b first second = first ∙ sym second
 kind_learns m list (Dense from rows unknowns want) a b first second = own_of_once m unknowns (rows_in rows unknowns (list from)) (length (list from) == rows * (unknowns + 1)) a b first second
 kind_learns m list (Sparse from unknowns want rows) a b first second = own_of_once m unknowns (rows_with unknowns rows (list from)) (length (list from) == entries_of rows) a b first second
 

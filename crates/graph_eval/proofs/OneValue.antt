@@ -1,5 +1,5 @@
 -- A graph has at most one outcome at a point.
-use Rattle.std.proofs.Common.{◌≡◌, ℕ, zero, suc, ◌<◌, ◌≤◌, ◌==◌, Bool, true, false, IsTrue, MatchBool, List, [], ◌∷◌, ◌++◌, length, take, get_or, Option, Some, None, refl, sym, ◌∙◌, ap, subst, arith}
+use Rattle.std.proofs.Common.{◌≡◌, ℕ, zero, suc, ◌<◌, ◌≤◌, ◌==◌, Bool, true, false, IsTrue, MatchBool, List, [], ◌∷◌, ◌++◌, length, map, take, get_or, Option, Some, None, refl, sym, ◌∙◌, ap, subst, arith}
 use Rattle.std.specs.Prelude.{slice_get, slice_index_or}
 use Rattle.std.proofs.lemmas.Bool.{false≢true}
 use Rattle.std.proofs.lemmas.Option.{slice_get_within}
@@ -9,10 +9,12 @@ use Rattle.elim_core.proofs.OwnSets.{solved_once}
 use Rattle.graph_file.specs.declared.graph.Graph.{Graph}
 use Rattle.graph_file.specs.declared.graph.Node.{Node}
 use Rattle.graph_file.specs.declared.graph.NodeKind.{NodeKind}
-use Rattle.graph_file.specs.declared.graph.NodeKind.TheVariants.{Eval, Take, Slice, Chain, Sum, Product, Matmul, Dense, Sparse}
+use Rattle.graph_file.specs.declared.graph.NodeKind.TheVariants.{Eval, Take, Slice, Chain, Sum, Product, Matmul, Dense, Sparse, Call, Memo, Map}
 use Rattle.graph_file.specs.declared.graph.Source.{Source}
 use Rattle.graph_eval.specs.declared.outcome.Cause.{Cause}
 use Rattle.graph_eval.specs.Systems.{rows_in}
+use Rattle.basic_nodes.specs.Plain.{chained}
+use Rattle.graph_eval.proofs.Mapped.{mapped_once, mapped_or_stopped, stopped_once}
 use Rattle.graph_eval.proofs.Places.{stands}
 use Rattle.graph_eval.specs.GraphValue.{IsOnce, Meaning, Outcome, Value, SingularAt, choose, named, KindGives, KindFails, NodeGives, NodeFails, FirstLists, IsValue, IsSingular, GraphMeans, GraphValue, MeansAt, meanings}
 
@@ -27,6 +29,9 @@ kind_gives m called learned list (Product parts) xs ys large once first second =
 kind_gives m called learned list (Matmul left right rows mid cols) xs ys large once first second = first ∙ sym second
 kind_gives m called learned list (Dense from rows unknowns want) xs ys large once first second = solved_once m unknowns (rows_in rows unknowns (list from)) learned want xs ys large first second
 kind_gives m called learned list (Sparse from unknowns want rows) xs ys large once first second = solved_once m unknowns (rows_with unknowns rows (list from)) learned want xs ys large first second
+kind_gives m called learned list (Call graph parts) xs ys large once first second = let both : Value xs ≡ Value ys = (once graph).once (chained (map list parts)) _ _ first second in cc
+kind_gives m called learned list (Memo graph parts) xs ys large once first second = let both : Value xs ≡ Value ys = (once graph).once (chained (map list parts)) _ _ first second in cc
+kind_gives m called learned list (Map graph parts) xs ys large once first second = mapped_once (called graph) (map list parts) (once graph) xs ys first second
 
 pub kind_fails : (m : ℕ) (called : ℕ → Meaning) (learned : List ℕ) (list : Source → List ℕ) (kind : NodeKind) (a b : Cause) → ((k : ℕ) → IsOnce (called k)) → KindFails m called learned list kind a → KindFails m called learned list kind b → a ≡ b
 kind_fails m called learned list (Eval from exprs) a b once first second = first.1 ∙ sym second.1
@@ -38,6 +43,9 @@ kind_fails m called learned list (Product parts) a b once first second = absurd 
 kind_fails m called learned list (Matmul left right rows mid cols) a b once first second = absurd first
 kind_fails m called learned list (Dense from rows unknowns want) a b once first second = first.1 ∙ sym second.1
 kind_fails m called learned list (Sparse from unknowns want rows) a b once first second = first.1 ∙ sym second.1
+kind_fails m called learned list (Call graph parts) a b once first second = let both : SingularAt first.0 a ≡ SingularAt second.0 b = (once graph).once (chained (map list parts)) _ _ first.1 second.1 in cc
+kind_fails m called learned list (Memo graph parts) a b once first second = let both : SingularAt first.0 a ≡ SingularAt second.0 b = (once graph).once (chained (map list parts)) _ _ first.1 second.1 in cc
+kind_fails m called learned list (Map graph parts) a b once first second = stopped_once (called graph) (map list parts) (once graph) a b first second
 
 kind_clash : (m : ℕ) (called : ℕ → Meaning) (learned : List ℕ) (list : Source → List ℕ) (kind : NodeKind) (xs : List ℕ) (cause : Cause) → ((k : ℕ) → IsOnce (called k)) → KindGives m called learned list kind xs → KindFails m called learned list kind cause → ⊥
 kind_clash m called learned list (Eval from exprs) xs cause once gives fails = let both : Some xs ≡ None = sym gives ∙ fails.0 in cc
@@ -49,6 +57,9 @@ kind_clash m called learned list (Product parts) xs cause once gives fails = abs
 kind_clash m called learned list (Matmul left right rows mid cols) xs cause once gives fails = absurd fails
 kind_clash m called learned list (Dense from rows unknowns want) xs cause once gives fails = fails.0 (record { multiples = gives.solved.c; constant = gives.solved.d; tells = gives.solved.tells })
 kind_clash m called learned list (Sparse from unknowns want rows) xs cause once gives fails = fails.0 (record { multiples = gives.solved.c; constant = gives.solved.d; tells = gives.solved.tells })
+kind_clash m called learned list (Call graph parts) xs cause once gives fails = let both : Value xs ≡ SingularAt fails.0 cause = (once graph).once (chained (map list parts)) _ _ gives fails.1 in cc
+kind_clash m called learned list (Memo graph parts) xs cause once gives fails = let both : Value xs ≡ SingularAt fails.0 cause = (once graph).once (chained (map list parts)) _ _ gives fails.1 in cc
+kind_clash m called learned list (Map graph parts) xs cause once gives fails = mapped_or_stopped (called graph) (map list parts) (once graph) xs cause gives fails
 
 pub node_gives : (m : ℕ) (called : ℕ → Meaning) (learned : List ℕ) (list : Source → List ℕ) (kind : NodeKind) (needed : Bool) (xs ys : List ℕ) → 1 < m → ((k : ℕ) → IsOnce (called k)) → MatchBool needed (KindGives m called learned list kind xs) (xs ≡ []) → MatchBool needed (KindGives m called learned list kind ys) (ys ≡ []) → xs ≡ ys
 node_gives m called learned list kind true xs ys large once first second = kind_gives m called learned list kind xs ys large once first second

@@ -140,3 +140,11 @@ remembered graphs sets frames moduli kept ins outs slot frame m are is below man
             }
       ];
     }
+
+-- where there is no memo, none keeps anything
+pub no_memos : (graphs : List Graph) (sets : List (List (List ℕ))) (kept : List ℕ) → AreKept graphs sets [] [] kept
+no_memos graphs sets kept = record {
+  stand = record { within = λ i frame is. cc; apart = λ i j first second before is. cc };
+  many = refl;
+  each = λ i frame m is. cc;
+}

@@ -6,12 +6,13 @@ use Rattle.std.proofs.lemmas.Bool.{cases_eq, eqb-true, leb-true, false≢true}
 use Rattle.std.proofs.lemmas.List.{length-map, get_or-map}
 use Rattle.std.proofs.lemmas.List.Elements.{All-nil, All-cons, All-head, All-tail, All-get_or, All-from_get_or}
 use Rattle.std.proofs.lemmas.Option.{get_or_from_slice_get, slice_get-get_or, slice_get-map, slice_get_within}
+use Rattle.std.proofs.lemmas.List.Sums.{AllPass-from_list_all}
 use Rattle.prime_field.specs.Residue.{IsPrime}
 use Rattle.elim_core.specs.Sparse.{entries_of}
 use Rattle.elim_core.specs.declared.SparseRow.{SparseRow}
 use Rattle.ratfun_text.specs.Value.{greatest, value}
 use Rattle.ratfun_text.specs.declared.expr.Expr.{Expr}
-use Rattle.basic_nodes.specs.Lengths.{are_equal, are_within}
+use Rattle.basic_nodes.specs.Lengths.{are_all, are_equal, are_within}
 use Rattle.basic_nodes.specs.Plain.{chained}
 use Rattle.basic_nodes.proofs.LengthRules.{ruled_some, are_equal_at, are_within_at}
 use Rattle.basic_nodes.proofs.Pieces.{length-chained}
@@ -21,14 +22,14 @@ use Rattle.graph_file.specs.Sound.{IsGraph, IsKind}
 use Rattle.graph_file.specs.declared.graph.Graph.{Graph}
 use Rattle.graph_file.specs.declared.graph.Node.{Node}
 use Rattle.graph_file.specs.declared.graph.NodeKind.{NodeKind}
-use Rattle.graph_file.specs.declared.graph.NodeKind.TheVariants.{Eval, Take, Slice, Chain, Sum, Product, Matmul, Dense, Sparse}
+use Rattle.graph_file.specs.declared.graph.NodeKind.TheVariants.{Eval, Take, Slice, Chain, Sum, Product, Matmul, Dense, Sparse, Call, Memo, Map}
 use Rattle.graph_file.specs.declared.graph.Source.{Source}
 use Rattle.graph_file.specs.declared.graph.Source.TheVariants as source
 use Rattle.graph_eval.specs.Evaluated.{no_graphs}
 use Rattle.graph_eval.specs.GraphValue.{KindFails, KindGives}
 use Rattle.graph_eval.specs.declared.outcome.Cause.{Cause}
 use Rattle.graph_eval.specs.declared.outcome.Cause.TheVariants.{Division}
-use Rattle.graph_eval.specs.Learned.{greatest_among, listed_length}
+use Rattle.graph_eval.specs.Learned.{greatest_among, listed_length, size_at}
 use Rattle.graph_eval.specs.Reading.{HasLength, IsEntry, IsThere, placed}
 use Rattle.graph_eval.specs.Systems.{AreEnough, AreEnoughFor, greatest_work, words_of, work_of}
 use Rattle.graph_eval.specs.declared.shapes.GraphSize.{GraphSize}
@@ -164,6 +165,30 @@ module _ (sizes : List GraphSize) (words places set : List ℕ) where
     pub sparse_entries : length (placed words places from) ≡ entries_of rows
     sparse_entries = eqb-true (room from) (entries_of rows) (ruled_some (room from == entries_of rows) (length want * (length set + 1)) own has).0
 
+  -- a node that calls a graph has its inputs, and its list is the graph's output
+  module _ (graph : ℕ) (parts : List Source) (own : ℕ) where
+    abbrev size : GraphSize
+    size = size_at sizes graph
+
+    module _ (has : listed_length sizes (placed words places) set (Call graph parts) ≡ Some own) where
+      pub call_inputs : length (chained (map (placed words places) parts)) ≡ (size_at sizes graph).inputs
+      call_inputs =
+          length-chained (map (placed words places) parts) ∙ sym (ap sum (rooms_are (placed words places) parts))
+          ∙ eqb-true (sum (map room parts)) size.inputs (ruled_some (sum (map room parts) == size.inputs) size.outputs own has).0
+
+      pub call_outputs : own ≡ (size_at sizes graph).outputs
+      call_outputs = sym (ruled_some (sum (map room parts) == size.inputs) size.outputs own has).1
+
+    module _ (has : listed_length sizes (placed words places) set (Map graph parts) ≡ Some own) where
+      pub map_inputs : All (HasLength words places (size_at sizes graph).inputs) parts
+      map_inputs = All-from_get_or (HasLength words places size.inputs) parts source.Input (λ i below.
+          let all = (ruled_some (are_all size.inputs (map room parts)) (length (map room parts) * size.outputs) own has).0 in
+          let at : get_or (map room parts) i 0 ≡ room (get_or parts i source.Input) = get_or-map room parts i source.Input 0 below in
+          sym at ∙ eqb-true _ _ (All-get_or (λ n. (n == size.inputs) ≡ true) (map room parts) i 0 (omega (arith, length-map parts room)) (AllPass-from_list_all (λ n. n == size.inputs) (map room parts) all)))
+
+      pub map_outputs : own ≡ length parts * (size_at sizes graph).outputs
+      map_outputs = sym (ruled_some (are_all size.inputs (map room parts)) (length (map room parts) * size.outputs) own has).1 ∙ ap (λ n. n * size.outputs) (length-map parts room)
+
 -- the greatest work is enough for each node
 greatest_each_work : (nodes : List Node) (n : ℕ) (node : Node) → slice_get nodes n ≡ Some node → work_of node ≤ greatest_work nodes
 greatest_each_work [] n node is = absurd (omega (arith, slice_get_within [] n node is))
@@ -211,6 +236,9 @@ work_bound variables place node is = when node.needed
     wants (Sum parts) is = omega arith
     wants (Product parts) is = omega arith
     wants (Matmul left right rows mid cols) is = omega arith
+    wants (Call graph parts) is = omega arith
+    wants (Memo graph parts) is = omega arith
+    wants (Map graph parts) is = omega arith
     wants (Dense from rows unknowns want) is = product unknowns (omega (arith, is.unknowns_high))
     wants (Sparse from unknowns want rows) is = product unknowns is.unknowns_high
 

@@ -3,18 +3,20 @@ use Rattle.std.proofs.Common.{◌≡◌, ℕ, zero, suc, ◌<◌, ◌≤◌, Boo
 use Rattle.std.specs.Prelude.{slice_get}
 use Rattle.std.proofs.lemmas.Bool.{cases_lt}
 use Rattle.std.proofs.lemmas.List.{length-map, get_or_past}
-use Rattle.std.proofs.lemmas.List.Elements.{All-nil, All-cons, All-map, All-get_or, All-from_get_or}
+use Rattle.std.proofs.lemmas.List.Elements.{All-nil, All-cons, All-head, All-tail, All-map, All-get_or, All-from_get_or}
 use Rattle.basic_nodes.specs.Lengths.{IsShape, HasLists, IsPosition}
 use Rattle.elim_core.specs.Solver.{AreUnknowns, IsAscending}
 use Rattle.graph_file.specs.Needed.{sources_of}
-use Rattle.graph_file.specs.Sound.{IsEarlier, IsKind}
+use Rattle.graph_file.specs.Sound.{IsEarlier, IsGraph, IsKind}
 use Rattle.graph_file.proofs.KindFacts.{sources_earlier}
+use Rattle.graph_file.specs.declared.graph.Graph.{Graph}
 use Rattle.graph_file.specs.declared.graph.Node.{Node}
 use Rattle.graph_file.specs.declared.graph.NodeKind.{NodeKind}
-use Rattle.graph_file.specs.declared.graph.NodeKind.TheVariants.{Eval, Take, Slice, Chain, Sum, Product, Matmul, Dense, Sparse}
+use Rattle.graph_file.specs.declared.graph.NodeKind.TheVariants.{Eval, Take, Slice, Chain, Sum, Product, Matmul, Dense, Sparse, Call, Memo, Map}
 use Rattle.graph_file.specs.declared.graph.Source.{Source}
 use Rattle.graph_file.specs.declared.graph.Source.TheVariants as source
-use Rattle.graph_eval.specs.Learned.{IsKindSet, IsSetFor, shape_of, named_length}
+use Rattle.graph_eval.specs.declared.learned.GraphLearned.{GraphLearned}
+use Rattle.graph_eval.specs.Learned.{AreFew, IsKindSet, IsSetFor, named_length, shape_of, size_at, size_of, sizes_of}
 use Rattle.graph_eval.specs.Systems.{HasFewEntries, HasFewUnknowns}
 use Rattle.graph_eval.specs.declared.shapes.GraphSize.{GraphSize}
 
@@ -45,6 +47,9 @@ empty_kind_set (Chain parts) = refl
 empty_kind_set (Sum parts) = refl
 empty_kind_set (Product parts) = refl
 empty_kind_set (Matmul left right rows mid cols) = refl
+empty_kind_set (Call graph parts) = refl
+empty_kind_set (Memo graph parts) = refl
+empty_kind_set (Map graph parts) = refl
 empty_kind_set (Dense from rows unknowns want) = (λ i j order low. absurd (omega arith), λ i low. absurd (omega arith))
 empty_kind_set (Sparse from unknowns want rows) = (λ i j order low. absurd (omega arith), λ i low. absurd (omega arith))
 
@@ -55,24 +60,38 @@ set_when false kind = refl
 pub empty_set_for : (node : Node) → IsSetFor node []
 empty_set_for node = set_when node.needed node.kind
 
+-- graphs have few inputs
+few_at : (sizes : List GraphSize) (number : ℕ) → AreFew sizes → (size_at sizes number).inputs ≤ 8
+few_at [] number few = omega arith
+few_at (size ∷ sizes) zero few = All-head (λ s. s.inputs ≤ 8) size sizes few
+few_at (size ∷ sizes) (suc number) few = few_at sizes number (All-tail (λ s. s.inputs ≤ 8) size sizes few)
+
+pub sizes_few : (graphs : List Graph) (learned : List GraphLearned) → ((k : ℕ) (graph : Graph) → slice_get graphs k ≡ Some graph → IsGraph graph) → AreFew (sizes_of graphs learned)
+sizes_few graphs [] sound = All-nil (λ s. s.inputs ≤ 8)
+sizes_few [] (entry ∷ learned) sound = All-nil (λ s. s.inputs ≤ 8)
+sizes_few (graph ∷ graphs) (entry ∷ learned) sound = All-cons (λ s. s.inputs ≤ 8) (size_of graph entry) (sizes_of graphs learned) (sound 0 graph refl).few (sizes_few graphs learned (λ k other at. sound (suc k) other at))
+
 -- the numbers of a sound node are in their ranges
-pub shape_sound : (variables number : ℕ) (sizes : List GraphSize) (set : List ℕ) (kind : NodeKind) → IsKind variables number kind → IsKindSet kind set → IsShape (shape_of sizes set kind)
-shape_sound variables number sizes set (Eval from exprs) is learned = tt
-shape_sound variables number sizes set (Take parts) is learned =
+pub shape_sound : (variables number : ℕ) (sizes : List GraphSize) (set : List ℕ) (kind : NodeKind) → AreFew sizes → IsKind variables number kind → IsKindSet kind set → IsShape (shape_of sizes set kind)
+shape_sound variables number sizes set (Eval from exprs) few is learned = tt
+shape_sound variables number sizes set (Take parts) few is learned =
     All-map IsPosition (λ part. part.1) parts (All-from_get (λ part. IsPosition part.1) parts (λ k part at. let position = is.positions k part at in (position.first, position.last)))
-shape_sound variables number sizes set (Slice from first last) is learned = (is.low, is.order, is.high)
-shape_sound variables number sizes set (Chain parts) is learned = tt
-shape_sound variables number sizes set (Sum parts) is learned = tt
-shape_sound variables number sizes set (Product parts) is learned = tt
-shape_sound variables number sizes set (Matmul left right rows mid cols) is learned =
+shape_sound variables number sizes set (Slice from first last) few is learned = (is.low, is.order, is.high)
+shape_sound variables number sizes set (Chain parts) few is learned = tt
+shape_sound variables number sizes set (Sum parts) few is learned = tt
+shape_sound variables number sizes set (Product parts) few is learned = tt
+shape_sound variables number sizes set (Matmul left right rows mid cols) few is learned =
     let sides = is.sides in
     record { rows_low = sides.height.first; mid_low = sides.depth.first; cols_low = sides.width.first; left = sides.left; right = sides.right; result = sides.whole }
-shape_sound variables number sizes set (Dense from rows unknowns want) is learned =
+shape_sound variables number sizes set (Dense from rows unknowns want) few is learned =
     let small = set_small unknowns set learned.0 learned.1 in
     omega (arith, is.unknowns_high, small)
-shape_sound variables number sizes set (Sparse from unknowns want rows) is learned =
+shape_sound variables number sizes set (Sparse from unknowns want rows) few is learned =
     let small = set_small unknowns set learned.0 learned.1 in
     omega (arith, is.unknowns_high, small)
+shape_sound variables number sizes set (Call graph parts) few is learned = omega (arith, few_at sizes graph few)
+shape_sound variables number sizes set (Memo graph parts) few is learned = omega (arith, few_at sizes graph few)
+shape_sound variables number sizes set (Map graph parts) few is learned = tt
 
 -- a sound node names as many lists as its kind wants
 pub lists_sound : (variables number : ℕ) (sizes : List GraphSize) (set : List ℕ) (kind : NodeKind) → IsKind variables number kind → HasLists (shape_of sizes set kind) (length (sources_of kind))
@@ -83,6 +102,9 @@ lists_sound variables number sizes set (Chain parts) is = tt
 lists_sound variables number sizes set (Sum parts) is = is.some
 lists_sound variables number sizes set (Product parts) is = is.some
 lists_sound variables number sizes set (Matmul left right rows mid cols) is = refl
+lists_sound variables number sizes set (Call graph parts) is = tt
+lists_sound variables number sizes set (Memo graph parts) is = tt
+lists_sound variables number sizes set (Map graph parts) is = tt
 lists_sound variables number sizes set (Dense from rows unknowns want) is = refl
 lists_sound variables number sizes set (Sparse from unknowns want rows) is = refl
 
@@ -113,6 +135,9 @@ few_unknowns variables number (Chain parts) is = tt
 few_unknowns variables number (Sum parts) is = tt
 few_unknowns variables number (Product parts) is = tt
 few_unknowns variables number (Matmul left right rows mid cols) is = tt
+few_unknowns variables number (Call graph parts) is = tt
+few_unknowns variables number (Memo graph parts) is = tt
+few_unknowns variables number (Map graph parts) is = tt
 few_unknowns variables number (Dense from rows unknowns want) is = omega (arith, is.unknowns_high)
 few_unknowns variables number (Sparse from unknowns want rows) is = is.unknowns_high
 
@@ -125,5 +150,8 @@ few_entries variables number (Chain parts) is = tt
 few_entries variables number (Sum parts) is = tt
 few_entries variables number (Product parts) is = tt
 few_entries variables number (Matmul left right rows mid cols) is = tt
+few_entries variables number (Call graph parts) is = tt
+few_entries variables number (Memo graph parts) is = tt
+few_entries variables number (Map graph parts) is = tt
 few_entries variables number (Dense from rows unknowns want) is = tt
 few_entries variables number (Sparse from unknowns want rows) is = is.filled.bounded

@@ -10,7 +10,7 @@ use Rattle.word_region.specs.Board.{Board}
 use Rattle.basic_nodes.specs.Plain.{chained}
 use Rattle.basic_nodes.proofs.Pieces.{chained-more, chained_residues, length-chained}
 use Rattle.graph_file.specs.Needed.{sources_of}
-use Rattle.graph_file.specs.Sound.{IsEarlier, IsGraph, IsKind}
+use Rattle.graph_file.specs.Sound.{CallsEarlier, IsEarlier, IsGraph, IsKind}
 use Rattle.graph_file.specs.declared.graph.Graph.{Graph}
 use Rattle.graph_file.specs.declared.graph.Node.{Node}
 use Rattle.graph_file.specs.declared.graph.Source.{Source}
@@ -20,12 +20,12 @@ use Rattle.graph_eval.specs.declared.outcome.Cause.{Cause}
 use Rattle.graph_eval.specs.Evaluated.{no_graphs}
 use Rattle.graph_eval.specs.GraphValue.{GraphMeans, KindFails, KindGives, Meaning, meanings, NodeFails, NodeGives, SingularAt, Value, named}
 use Rattle.graph_eval.specs.Learned.{FitsGraph, FitsNode, HasOwnLength, listed_length, sets_of}
-use Rattle.graph_eval.specs.Needs.{words_at, words_for}
+use Rattle.graph_eval.specs.Needs.{greatest_extra, node_extra, words_at, words_below, words_for}
 use Rattle.graph_eval.specs.Reading.{AreListed, IsThere, placed, places_of, start_of, stop_of}
 use Rattle.graph_eval.specs.Stacked.{IsAdded, IsReady, IsReplaced}
-use Rattle.graph_eval.specs.Systems.{greatest_work}
-use Rattle.graph_eval.proofs.EvaluationLaws.{FirstLists-none, ListsSoFar, alone, fails_alone, goes_on, graph_value, stops}
+use Rattle.graph_eval.proofs.EvaluationLaws.{FirstLists-none, ListsSoFar, goes_on, graph_value, stops}
 use Rattle.graph_eval.proofs.Listed.{named_placed, room_is, source_there, sum_to, table_room, table_sound, table_there, take-places}
+use Rattle.graph_eval.proofs.Wanted.{greatest_at, node_extra_same}
 use Rattle.graph_eval.proofs.Writing.{placed_residues}
 use Rattle.graph_eval.specs.declared.shapes.GraphSize.{GraphSize}
 
@@ -81,11 +81,11 @@ added_here m set list node own old new values (Ok done) needed gives low long ar
   long = long;
 }
 
-pub added_none : (m : ℕ) (sizes : List GraphSize) (set : List ℕ) (list : Source → List ℕ) (node : Node) (own : ℕ) (words : List ℕ) → node.needed ≡ false → HasOwnLength sizes list set node own → IsAdded m no_graphs set list node own words words
-added_none m sizes set list node own words left_out has = record {
+pub added_none : (m : ℕ) (called : ℕ → Meaning) (sizes : List GraphSize) (set : List ℕ) (list : Source → List ℕ) (node : Node) (own : ℕ) (words : List ℕ) → node.needed ≡ false → HasOwnLength sizes list set node own → IsAdded m called set list node own words words
+added_none m called sizes set list node own words left_out has = record {
   values = [];
   words = sym (append-nil words);
-  gives = λ prime. subst (λ (b : Bool). MatchBool b (KindGives m no_graphs set list node.kind []) (◌≡◌ {A = List ℕ} [] [])) (sym left_out) refl;
+  gives = λ prime. subst (λ (b : Bool). MatchBool b (KindGives m called set list node.kind []) (◌≡◌ {A = List ℕ} [] [])) (sym left_out) refl;
   low = All-nil (λ x. x < m);
   long = sym (subst (λ (b : Bool). MatchBool b (listed_length sizes list set node.kind ≡ Some own) (own ≡ 0)) left_out has);
 }
@@ -144,23 +144,21 @@ module _ (m : ℕ) (called : ℕ → Meaning) (graph : Graph) (learned : GraphLe
       omega arith
 
   pub stands_stop : (node : Node) (cause : Cause) → slice_get graph.nodes count ≡ Some node
-      → (IsPrime m → NodeFails m no_graphs (slice_index_or learned.sets count []) (placed (drop base words) (places_of variables (take count learned.lengths))) node cause) → IsPrime m → GraphMeans m called learned.sets graph inputs (SingularAt count cause)
+      → (IsPrime m → NodeFails m called (slice_index_or learned.sets count []) (placed (drop base words) (places_of variables (take count learned.lengths))) node cause) → IsPrime m → GraphMeans m called learned.sets graph inputs (SingularAt count cause)
   stands_stop node cause is fails =
       let set : List ℕ = slice_index_or learned.sets count [] in
       stops m called graph inputs learned.sets learned.lengths stands.lists count set node cause stands.so_far is refl
-      (λ prime.
-      let at : NodeFails m no_graphs set (named inputs stands.lists) node cause = subst (λ (list : Source → List ℕ). NodeFails m no_graphs set list node cause) stands_named (fails prime) in
-      (at.0, fails_alone m called set (named inputs stands.lists) node.kind cause at.1))
+      (λ prime. subst (λ (list : Source → List ℕ). NodeFails m called set list node cause) stands_named (fails prime))
 
   pub stands_more : (node : Node) (new : List ℕ) → slice_get graph.nodes count ≡ Some node → count < length learned.lengths
-      → IsAdded m no_graphs (slice_index_or learned.sets count []) (placed (drop base words) (places_of variables (take count learned.lengths))) node (slice_index learned.lengths count) words new → ListsStand m called graph learned below inputs new (count + 1)
+      → IsAdded m called (slice_index_or learned.sets count []) (placed (drop base words) (places_of variables (take count learned.lengths))) node (slice_index learned.lengths count) words new → ListsStand m called graph learned below inputs new (count + 1)
   stands_more node new is room added =
       let set : List ℕ = slice_index_or learned.sets count [] in
       let values : List ℕ = added.values in
       record {
         lists = stands.lists ++ values ∷ [];
         so_far = goes_on m called graph.nodes inputs learned.sets learned.lengths stands.lists (stands.lists ++ values ∷ []) count (slice_index learned.lengths count) set node values stands.so_far is refl
-            (λ prime. alone m called set (named inputs stands.lists) node values (subst (λ (list : Source → List ℕ). NodeGives m no_graphs set list node values) stands_named (added.gives prime)))
+            (λ prime. subst (λ (list : Source → List ℕ). NodeGives m called set list node values) stands_named (added.gives prime))
             added.low added.long room refl refl;
         words_are = added.words ∙ ap (λ xs. xs ++ values) stands.words_are ∙ append_assoc below (inputs ++ chained stands.lists) values
             ∙ ap (λ xs. below ++ xs) (append_assoc inputs (chained stands.lists) values ∙ ap (λ xs. inputs ++ xs) (sym (chained-more stands.lists values)));
@@ -177,7 +175,7 @@ module _ (m : ℕ) (called : ℕ → Meaning) (graph : Graph) (learned : GraphLe
       }
 
 -- the output of a graph is there
-output_earlier : (graph : Graph) (count : ℕ) → IsGraph graph → count ≡ length graph.nodes → IsEarlier count graph.output
+pub output_earlier : (graph : Graph) (count : ℕ) → IsGraph graph → count ≡ length graph.nodes → IsEarlier count graph.output
 output_earlier graph count sound all = at graph.output refl
   where
     at : (from : Source) → graph.output ≡ from → IsEarlier count from
@@ -200,17 +198,20 @@ module _ (m : ℕ) (graphs : List Graph) (learned : List GraphLearned) (number b
   pub ready_inputs : length (drop base old.words) ≡ length graph.inputs
   ready_inputs = let long = ready.inputs graph is in let rest = length-drop base old.words in omega arith
 
-  pub ready_room : base + (length graph.inputs + sum entry.lengths) ≤ old.size
+  pub ready_room : base + (length graph.inputs + sum entry.lengths + greatest_extra (words_below graphs learned number) graph.nodes) ≤ old.size
   ready_room =
-      let words : words_for graphs learned number ≡ length graph.inputs + sum entry.lengths + greatest_work graph.nodes = ap (λ o. words_at o (slice_get learned number)) is ∙ ap (words_at (Some graph)) entry_is in
+      let words : words_for graphs learned number ≡ length graph.inputs + sum entry.lengths + greatest_extra (words_below graphs learned number) graph.nodes =
+      ap (λ o. words_at (words_below graphs learned number) o (slice_get learned number)) is ∙ ap (words_at (words_below graphs learned number) (Some graph)) entry_is in
       let room = ready.room in
       omega arith
 
   module _ (sizes : List GraphSize) (last : Board) (places : List ℕ) (count : ℕ) (sound : IsGraph graph) (fits : FitsGraph sizes graph entry) (places_are : places ≡ places_of (length graph.inputs) entry.lengths)
       (stands : ListsStand m (meanings m graphs (sets_of learned) number) graph entry (take base old.words) (drop base old.words) last.words count) where
     -- the next node has room
-    pub node_room : (node : Node) → slice_get graph.nodes count ≡ Some node → last.size ≡ old.size → length last.words + slice_index entry.lengths count ≤ last.size
-    node_room node node_is same =
+    pub node_room : (node : Node) → slice_get graph.nodes count ≡ Some node → CallsEarlier number graph → last.size ≡ old.size → length last.words + slice_index entry.lengths count + node_extra (words_for graphs learned) node ≤ last.size
+    node_room node node_is earlier same =
+        let extra = node_extra_same graphs learned number node (λ other at. earlier count node other node_is at) in
+        let most = greatest_at (words_below graphs learned number) graph.nodes count node node_is in
         let below = slice_get_within graph.nodes count node node_is in
         let end = stands_end m (meanings m graphs (sets_of learned) number) graph entry (take base old.words) (drop base old.words) last.words count base (length graph.inputs) stands ready_below ready_inputs in
         let sums = sum_to entry.lengths count (omega (arith, fits.all)) in

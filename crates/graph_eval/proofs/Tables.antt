@@ -36,5 +36,5 @@ tables_more graphs learned tables more count graph entry table so_far is entry_i
   ];
 }
 
-pub tables_all : (graphs : List Graph) (learned : List GraphLearned) (tables : List (List ℕ)) (count : ℕ) → TablesSoFar graphs learned tables count → count ≡ length graphs → AreTables graphs learned tables
-tables_all graphs learned tables count so_far all = record { many = so_far.many ∙ all; each = λ k graph entry at here. so_far.each k graph entry (omega (arith, slice_get_within graphs k graph at)) at here }
+pub tables_all : (graphs : List Graph) (learned : List GraphLearned) (tables : List (List ℕ)) (count : ℕ) → TablesSoFar graphs learned tables count → count ≡ length learned → AreTables graphs learned tables
+tables_all graphs learned tables count so_far all = record { many = so_far.many ∙ all; each = λ k graph entry at here. so_far.each k graph entry (omega (arith, slice_get_within learned k entry here)) at here }

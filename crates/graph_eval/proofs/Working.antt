@@ -14,6 +14,8 @@ use Rattle.graph_eval.specs.declared.outcome.Singular.{Singular}
 use Rattle.graph_eval.specs.declared.worker.Worker.{Worker}
 use Rattle.graph_eval.specs.Evaluated.{FitsOutcome, HasInputs, IsNeededAt}
 use Rattle.graph_eval.specs.Made.{IsMadeFor}
+use Rattle.graph_eval.specs.Learned.{sets_of}
+use Rattle.graph_eval.specs.Memos.{AreKept, FitFrames}
 use Rattle.graph_eval.specs.Needs.{AreTables, words_for}
 use Rattle.graph_eval.specs.Stacked.{IsReady}
 use Rattle.graph_eval.specs.Systems.{AreEnoughFor}
@@ -23,7 +25,7 @@ value_least : (m : Modulus) → 2305843009213693951 ≤ value_of m
 value_least First = omega arith
 value_least Second = omega arith
 
-point_low : (m : Modulus) (point : List ℕ) → IsPoint point → All (λ x. x < value_of m) point
+pub point_low : (m : Modulus) (point : List ℕ) → IsPoint point → All (λ x. x < value_of m) point
 point_low m point is = All-from_get_or (λ x. x < value_of m) point 0 (λ i below. omega (arith, is.below i below, value_least m))
 
 -- with the point's entries on an empty stack, the main graph is ready
@@ -39,13 +41,15 @@ point_ready m graphs learned number old new entries point size empty pushed entr
     }
 
 -- a worker that has the same room, and no word in use, is made for the same job
-pub made_again : (graphs : List Graph) (learned : List GraphLearned) (worker after : Worker) → IsMadeFor graphs learned worker → after.stack.size ≡ worker.stack.size → after.stack.kept ≡ worker.stack.kept → after.stack.words ≡ [] → vec_len after.work ≡ vec_len worker.work → after.tables ≡ worker.tables → IsMadeFor graphs learned after
-made_again graphs learned worker after made size kept empty work tables = record {
-  kept = ap length kept ∙ made.kept;
+pub made_again : (graphs : List Graph) (learned : List GraphLearned) (worker after : Worker) → IsMadeFor graphs learned worker → after.stack.size ≡ worker.stack.size → length after.stack.kept ≡ length worker.stack.kept → AreKept graphs (sets_of learned) after.frames.items after.moduli.items after.stack.kept → after.stack.words ≡ [] → vec_len after.work ≡ vec_len worker.work → after.tables ≡ worker.tables → after.frames ≡ worker.frames → IsMadeFor graphs learned after
+made_again graphs learned worker after made size kept memos empty work tables frames = record {
+  kept = kept ∙ made.kept;
   size = size ∙ made.size;
   empty = empty;
   work = subst (AreEnoughFor graphs) (sym work) made.work;
   tables = subst (AreTables graphs learned) (sym tables) made.tables;
+  frames = subst (λ fs. FitFrames graphs learned fs.items) (sym frames) made.frames;
+  memos = memos;
 }
 
 -- what is told fits the main graph

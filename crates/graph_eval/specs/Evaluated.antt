@@ -1,7 +1,9 @@
 -- What evaluating a node or a graph answers.
-use Rattle.std.specs.Prelude.{◌≡◌, ℕ, ◌<◌, All, IsTrue, List, Option, Some, None, length, slice_get}
+use Rattle.std.specs.Prelude.{◌≡◌, ℕ, ◌<◌, All, IsTrue, List, Option, Some, None, Result, Ok, Err, length, slice_get}
 use Rattle.graph_file.specs.declared.graph.Graph.{Graph}
 use Rattle.graph_file.specs.declared.graph.Node.{Node}
+use Rattle.graph_eval.specs.declared.outcome.Cause.{Cause}
+use Rattle.graph_eval.specs.declared.outcome.Singular.{Singular}
 use Rattle.graph_eval.specs.declared.outcome.Outcome as code
 use Rattle.graph_eval.specs.declared.outcome.Outcome.TheVariants as answer
 use Rattle.graph_eval.specs.GraphValue.{Meaning, Outcome, Value, SingularAt}
@@ -10,6 +12,11 @@ use Rattle.graph_eval.specs.GraphValue.{Meaning, Outcome, Value, SingularAt}
 abbrev pub outcome_of : List ℕ → code.Outcome → Outcome
 outcome_of values answer.Defined = Value values
 outcome_of values (answer.Singular singular) = SingularAt singular.node singular.cause
+
+-- the cause alone
+abbrev pub cause_told : Result (Unit {0}) Singular → Result (Unit {0}) Cause
+cause_told (Ok done) = Ok done
+cause_told (Err singular) = Err singular.cause
 
 -- no graph means anything
 abbrev pub no_graphs : ℕ → Meaning

@@ -9,7 +9,7 @@ use Rattle.graph_file.specs.Line.{all_of}
 use Rattle.graph_file.specs.declared.graph.Graph.{Graph}
 use Rattle.graph_file.specs.declared.graph.Node.{Node}
 use Rattle.graph_file.specs.declared.graph.NodeKind.{NodeKind}
-use Rattle.graph_file.specs.declared.graph.NodeKind.TheVariants.{Eval, Take, Slice, Chain, Sum, Product, Matmul, Dense, Sparse}
+use Rattle.graph_file.specs.declared.graph.NodeKind.TheVariants.{Eval, Take, Slice, Chain, Sum, Product, Matmul, Dense, Sparse, Call, Memo, Map}
 use Rattle.graph_file.specs.declared.graph.Source.{Source}
 use Rattle.graph_file.specs.declared.graph.Source.TheVariants as source
 use Rattle.graph_eval.specs.declared.outcome.Cause.{Cause}
@@ -66,6 +66,9 @@ KindGives m called learned list (Product parts) values = values ≡ multiplied m
 KindGives m called learned list (Matmul left right rows mid cols) values = values ≡ matrix_product m rows mid cols (list left) (list right)
 KindGives m called learned list (Dense from rows unknowns want) values = IsSolved m unknowns (rows_in rows unknowns (list from)) learned want values
 KindGives m called learned list (Sparse from unknowns want rows) values = IsSolved m unknowns (rows_with unknowns rows (list from)) learned want values
+KindGives m called learned list (Call graph parts) values = called graph (chained (map list parts)) (Value values)
+KindGives m called learned list (Memo graph parts) values = called graph (chained (map list parts)) (Value values)
+KindGives m called learned list (Map graph parts) values = IsMapped (called graph) (map list parts) values
 
 -- A node of this kind has no value, for this cause.
 abbrev pub KindFails : ℕ → (ℕ → Meaning) → List ℕ → (Source → List ℕ) → NodeKind → Cause → Type 0
@@ -78,6 +81,9 @@ KindFails m called learned list (Product parts) cause = ⊥
 KindFails m called learned list (Matmul left right rows mid cols) cause = ⊥
 KindFails m called learned list (Dense from rows unknowns want) cause = (HasSolverValue m unknowns (rows_in rows unknowns (list from)) learned → ⊥) × (cause ≡ System)
 KindFails m called learned list (Sparse from unknowns want rows) cause = (HasSolverValue m unknowns (rows_with unknowns rows (list from)) learned → ⊥) × (cause ≡ System)
+KindFails m called learned list (Call graph parts) cause = (node : ℕ) × called graph (chained (map list parts)) (SingularAt node cause)
+KindFails m called learned list (Memo graph parts) cause = (node : ℕ) × called graph (chained (map list parts)) (SingularAt node cause)
+KindFails m called learned list (Map graph parts) cause = IsStopped (called graph) (map list parts) cause
 
 -- a node that is needed gives its value, and one that isn't is left out and gives nothing
 abbrev pub NodeGives : ℕ → (ℕ → Meaning) → List ℕ → (Source → List ℕ) → Node → List ℕ → Type 0

@@ -1,6 +1,6 @@
 -- What is learned of a graph: the sets of its solvers' unknowns, the plans of its sparse systems and the lengths of its
 -- nodes' lists.
-use Rattle.std.specs.Prelude.{◌≡◌, ℕ, ◌+◌, ◌-◌, ◌*◌, ◌<◌, ◌≤◌, nat_le, max, if◌then◌else◌, Bool, true, false, ◌&&◌, MatchBool, List, [], ◌∷◌, length, map, take, sum, slice_get, slice_index, slice_index_or, Option, Some, None, option_and_then}
+use Rattle.std.specs.Prelude.{◌≡◌, ℕ, ◌+◌, ◌-◌, ◌*◌, ◌<◌, ◌≤◌, nat_le, max, if◌then◌else◌, All, Bool, true, false, ◌&&◌, MatchBool, List, [], ◌∷◌, length, map, take, sum, slice_get, slice_index, slice_index_or, Option, Some, None, option_and_then}
 use Rattle.elim_core.specs.Solver.{AreUnknowns, IsAscending}
 use Rattle.elim_core.specs.Sparse.{entries_of}
 use Rattle.elim_core.specs.declared.SparseRow.{SparseRow}
@@ -12,11 +12,11 @@ use Rattle.basic_nodes.specs.Lengths.{length_rule}
 use Rattle.basic_nodes.specs.declared.lengths.NodeShape.{NodeShape}
 use Rattle.basic_nodes.specs.declared.lengths.NodeShape.TheVariants as shape
 use Rattle.graph_file.specs.Needed.{sources_of}
-use Rattle.graph_file.specs.Sound.{IsGraph, IsKind}
+use Rattle.graph_file.specs.Sound.{CallsEarlier, IsGraph, IsKind}
 use Rattle.graph_file.specs.declared.graph.Graph.{Graph}
 use Rattle.graph_file.specs.declared.graph.Node.{Node}
 use Rattle.graph_file.specs.declared.graph.NodeKind.{NodeKind}
-use Rattle.graph_file.specs.declared.graph.NodeKind.TheVariants.{Eval, Take, Slice, Chain, Sum, Product, Matmul, Dense, Sparse}
+use Rattle.graph_file.specs.declared.graph.NodeKind.TheVariants.{Eval, Take, Slice, Chain, Sum, Product, Matmul, Dense, Sparse, Call, Memo, Map}
 use Rattle.graph_file.specs.declared.graph.Source.{Source}
 use Rattle.graph_file.specs.declared.graph.Source.TheVariants as source
 use Rattle.graph_eval.specs.declared.learned.GraphLearned.{GraphLearned}
@@ -47,6 +47,14 @@ sizes_of graphs [] = []
 sizes_of [] (entry ∷ learned) = []
 sizes_of (graph ∷ graphs) (entry ∷ learned) = size_of graph entry ∷ sizes_of graphs learned
 
+-- the size of the graph with this number, counted from 0
+abbrev pub size_at : List GraphSize → ℕ → GraphSize
+size_at sizes number = slice_index_or sizes number (record { inputs = 0; outputs = 0 })
+
+-- each of these graphs has few inputs
+abbrev pub AreFew : List GraphSize → Type 0
+AreFew sizes = All (λ size. size.inputs ≤ 8) sizes
+
 -- what the length of a node's list depends on, where the set was learned for the node, and the graphs before its own have these sizes
 abbrev pub shape_of : List GraphSize → List ℕ → NodeKind → NodeShape
 shape_of sizes set (Eval from exprs) = shape.Eval (length exprs) (greatest_among exprs)
@@ -58,6 +66,9 @@ shape_of sizes set (Product parts) = shape.Product
 shape_of sizes set (Matmul left right rows mid cols) = shape.Matmul rows mid cols
 shape_of sizes set (Dense from rows unknowns want) = shape.Solver (rows * (unknowns + 1)) (length want) (length set)
 shape_of sizes set (Sparse from unknowns want rows) = shape.Solver (entries_of rows) (length want) (length set)
+shape_of sizes set (Call graph parts) = shape.Call (size_at sizes graph).inputs (size_at sizes graph).outputs
+shape_of sizes set (Memo graph parts) = shape.Call (size_at sizes graph).inputs (size_at sizes graph).outputs
+shape_of sizes set (Map graph parts) = shape.Map (size_at sizes graph).inputs (size_at sizes graph).outputs
 
 -- the length of the list that a source names, where there are so many inputs and the nodes have these lengths
 abbrev pub named_length : ℕ → List ℕ → Source → ℕ
@@ -172,6 +183,10 @@ pub record FailsLength (sizes : List GraphSize) (graph : Graph) (n : ℕ) : Type
 -- each of these graphs is sound
 pub record AreGraphs (graphs : List Graph) : Type 0 where
   pub graph : (k : ℕ) (graph : Graph) → slice_get graphs k ≡ Some graph → IsGraph graph
+
+-- each of these graphs calls earlier ones alone
+pub record CallEarlier (graphs : List Graph) : Type 0 where
+  pub graph : (k : ℕ) (graph : Graph) → slice_get graphs k ≡ Some graph → CallsEarlier k graph
 
 -- what was learned of the first so many graphs of a file, an entry for each in order
 pub record FitsFirst (graphs : List Graph) (learned : List GraphLearned) (count : ℕ) : Type 0 where

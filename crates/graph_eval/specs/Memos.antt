@@ -38,5 +38,15 @@ pub record AreKept (graphs : List Graph) (sets : List (List (List ℕ))) (frames
 -- a memo has room for the inputs and the output of an earlier graph
 pub record FitsFrame (graphs : List Graph) (learned : List GraphLearned) (frame : MemoFrame) : Type 0 where
   pub called : frame.graph < length graphs
+  pub known : frame.graph < length learned
   pub inputs : (graph : Graph) → slice_get graphs frame.graph ≡ Some graph → frame.inputs ≡ length graph.inputs
   pub outputs : (entry : GraphLearned) → slice_get learned frame.graph ≡ Some entry → frame.outputs ≡ entry.output
+
+-- each memo has
+pub record FitFrames (graphs : List Graph) (learned : List GraphLearned) (frames : List MemoFrame) : Type 0 where
+  pub each : (i : ℕ) (frame : MemoFrame) → slice_get frames i ≡ Some frame → FitsFrame graphs learned frame
+
+-- these memos have their places among so many words, one behind the other, and room for the graphs that they call
+pub record AreFrames (graphs : List Graph) (learned : List GraphLearned) (frames : List MemoFrame) (count : ℕ) : Type 0 where
+  pub stand : FramesStand frames count
+  pub fit : FitFrames graphs learned frames

@@ -5,11 +5,12 @@ use Rattle.prime_field.specs.Residue.{IsPrime}
 use Rattle.basic_nodes.specs.Plain.{chained}
 use Rattle.graph_file.specs.declared.graph.Graph.{Graph}
 use Rattle.graph_file.specs.declared.graph.Node.{Node}
+use Rattle.graph_file.specs.declared.graph.NodeKind.{NodeKind}
 use Rattle.graph_file.specs.declared.graph.Source.{Source}
 use Rattle.graph_eval.specs.declared.learned.GraphLearned.{GraphLearned}
 use Rattle.graph_eval.specs.GraphValue.{GivesFirst, GraphValue, Meaning, NodeGives, Value}
-use Rattle.graph_eval.specs.Learned.{sets_of}
-use Rattle.graph_eval.specs.Needs.{words_for}
+use Rattle.graph_eval.specs.Learned.{listed_length, sets_of, sizes_of}
+use Rattle.graph_eval.specs.Needs.{extra_of, words_for}
 
 -- the words from a place on are the graph's inputs, and there is room for what it needs
 pub record IsReady (m : ℕ) (graphs : List Graph) (learned : List GraphLearned) (number base : ℕ) (board : Board) : Type 0 where
@@ -32,6 +33,13 @@ pub record IsAdded (m : ℕ) (called : ℕ → Meaning) (set : List ℕ) (list :
   pub gives : IsPrime m → NodeGives m called set list node values
   pub low : All (λ x. x < m) values
   pub long : length values ≡ own
+
+-- a node that calls an earlier graph has a length by its rule, and there is room for its list and for what it wants beside it
+pub record HasCallRoom (graphs : List Graph) (learned : List GraphLearned) (number : ℕ) (list : Source → List ℕ) (kind : NodeKind) (used size : ℕ) : Type 0 where
+  pub set : List ℕ
+  pub own : ℕ
+  pub ruled : listed_length (sizes_of graphs (take number learned)) list set kind ≡ Some own
+  pub room : used + own + extra_of (words_for graphs learned) kind ≤ size
 
 -- an earlier graph's output at these inputs stands behind the words that were there
 pub record IsCalled (m : ℕ) (graphs : List Graph) (learned : List GraphLearned) (called : ℕ) (inputs old new : List ℕ) : Type 0 where

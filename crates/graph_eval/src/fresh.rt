@@ -1,19 +1,22 @@
 //! Learning a graph at a point: which unknowns tell the others in each system, and how long each list is.
 
-ghost use Rattle.std.specs.Prelude.{◌≡◌, ◌<◌, All, IfOk, length, slice_get};
+ghost use Rattle.std.specs.Prelude.{◌≡◌, ℕ, ◌<◌, ◌≤◌, All, IfOk, Some, length, slice_get, slice_index};
 ghost use Rattle.prime_field.specs.Modulus.{value_of};
 ghost use Rattle.prime_field.specs.Residue.{IsPrime};
-ghost use Rattle.graph_file.specs.Sound.{IsGraph};
-ghost use Rattle.graph_eval.specs.Evaluated.{HasInputs, no_graphs};
+ghost use Rattle.graph_eval.specs.Evaluated.{HasInputs};
 ghost use Rattle.graph_eval.specs.Fresh.{FitsFresh, FitsFreshAt, IsFresh, IsFreshAt};
-ghost use Rattle.graph_eval.specs.Learned.{FitsFirst};
+ghost use Rattle.graph_eval.specs.GraphValue.{meanings};
+ghost use Rattle.graph_eval.specs.Learned.{AreGraphs, CallEarlier, FitsFirst, sets_of, sizes_of};
+ghost use Rattle.graph_eval.specs.Needs.{AreTables, words_below};
+ghost use Rattle.graph_eval.specs.Systems.{AreEnoughFor};
 
 use crate::learned::{GraphLearned, Learned};
 use crate::lengths::{learned_of, node_length};
+use crate::needs::{tables_of, words_of_each};
 use crate::outcome::Singular;
 use crate::own::{learn_node, push_own};
 use crate::shapes::{GraphSize, sizes_of};
-use crate::systems::greatest_work;
+use crate::systems::work_for;
 use graph_file::{Graph, Job};
 use poly_maps::Point;
 use prime_field::Modulus;
@@ -32,22 +35,35 @@ pub enum Fresh {
     Length { node: u32 },
 }
 
-/// What is learned of a graph that calls no other at these inputs.
+/// What is learned of the next graph at these inputs. What was learned of the graphs before it is known, and where their
+/// lists stand and how many words they need.
 fn learn_graph(
     alloc: Global,
     m: Modulus,
+    graphs: &[Graph],
+    learned: &[GraphLearned],
+    tables: &[Items<usize>],
+    wanted: &[usize],
     graph: &Graph,
     sizes: &[GraphSize],
     inputs: &[u64],
+    work: &mut [u64],
 ) -> Result<Fresh, NoMemory>
-    requires sound { IsGraph graph.now }
+    requires sound { AreGraphs graphs.now }
+    requires earlier { CallEarlier graphs.now }
+    requires fits { FitsFirst graphs.now learned.now (length learned.now) }
+    requires tables { AreTables graphs.now learned.now tables.now }
+    requires wanted { (k : ℕ) → slice_index wanted.now k ≡ words_below graphs.now learned.now (length learned.now) k }
+    requires bound { (k : ℕ) → slice_index wanted.now k ≤ 1152921504606846976 }
+    requires many { length learned.now ≤ length wanted.now }
+    requires is { slice_get graphs.now (length learned.now) ≡ Some graph.now }
+    requires sizes_are { sizes.now ≡ sizes_of graphs.now learned.now }
+    requires enough { AreEnoughFor graphs.now (length work.old) }
     requires residues { All (λ x. x < value_of m) inputs.now }
     requires entries { length inputs.now ≡ length graph.now.inputs }
-    ensures fresh { IfOk result (λ fresh. IsPrime (value_of m) → IsFresh (value_of m) no_graphs sizes.now graph.now inputs.now fresh) }
+    ensures fresh { IfOk result (λ fresh. IsPrime (value_of m) → IsFresh (value_of m) (meanings (value_of m) graphs.now (sets_of learned.now) (length learned.now)) sizes.now graph.now inputs.now fresh) }
     ensures fits { IfOk result (FitsFresh sizes.now graph.now) }
 {
-    let mut work = vec![in alloc; 0; greatest_work(graph)]?;
-    let work = work.as_mut_slice();
     let mut sets = Vec::new(alloc);
     let mut plans = Vec::new(alloc);
     let mut lengths = Vec::new(alloc);
@@ -63,7 +79,20 @@ fn learn_graph(
         let Some(count) = node_length(alloc, node, set, sizes, inputs.len(), earlier, total)? else {
             return Ok(Fresh::Length { node: place as u32 });
         };
-        if let Err(cause) = push_own(m, node, &own, count as usize, &mut words, before, work)? {
+        if let Err(cause) = push_own(
+            alloc,
+            m,
+            graphs,
+            learned,
+            tables,
+            wanted,
+            node,
+            &own,
+            count as usize,
+            &mut words,
+            before,
+            work,
+        )? {
             return Ok(Fresh::Singular(Singular {
                 node: place as u32,
                 cause,
@@ -98,7 +127,22 @@ pub fn fresh_point(
     ensures fits { IfOk result (FitsFreshAt job.now.graphs learned.now graph) }
 {
     let graphs = job.graphs.as_slice();
-    let sizes = sizes_of(alloc, graphs, learned.all())?;
+    let known = learned.all();
+    let sizes = sizes_of(alloc, graphs, known)?;
+    let tables = tables_of(alloc, graphs, known)?;
+    let wanted = words_of_each(graphs, known);
+    let mut work = work_for(alloc, graphs)?;
     let inputs = point.entries();
-    Ok(learn_graph(alloc, m, &graphs[graph as usize], sizes.as_slice(), inputs)?)
+    Ok(learn_graph(
+        alloc,
+        m,
+        graphs,
+        known,
+        tables.as_slice(),
+        &wanted,
+        &graphs[graph as usize],
+        sizes.as_slice(),
+        inputs,
+        work.as_mut_slice(),
+    )?)
 }

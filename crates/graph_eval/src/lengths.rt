@@ -3,7 +3,7 @@
 ghost use Rattle.std.specs.Prelude.{◌≡◌, ◌+◌, ◌<◌, ◌≤◌, [], false, All, IfOk, IfSome, None, length, map, sum, vec_len};
 ghost use Rattle.graph_file.specs.Sound.{IsEarlier, IsGraph, IsKind, IsNode};
 ghost use Rattle.graph_eval.specs.Fresh.{IsMeasured, IsMeasuredAt};
-ghost use Rattle.graph_eval.specs.Learned.{AreEmpty, AreNone, FitsFirst, IsKindSet, IsPlainAt, IsSetFor, has_solver, is_solver, kind_length, named_length, node_length, sizes_of};
+ghost use Rattle.graph_eval.specs.Learned.{AreEmpty, AreFew, AreNone, FitsFirst, IsKindSet, IsPlainAt, IsSetFor, has_solver, is_solver, kind_length, named_length, node_length, sizes_of};
 
 use crate::fresh::Fresh;
 use crate::learned::{GraphLearned, Learned};
@@ -84,6 +84,7 @@ fn kind_length(
     requires sound { IsKind inputs (length earlier.now) kind.now }
     requires set { IsKindSet kind.now set.now }
     requires few { inputs ≤ 8 }
+    requires sizes { AreFew sizes.now }
     requires within { All (λ n. n ≤ 262144) earlier.now }
     ensures value { IfOk result (λ own. own ≡ kind_length sizes.now inputs earlier.now set.now kind.now) }
     ensures limit { IfOk result (λ own. IfSome own (λ n. n ≤ 262144)) }
@@ -108,6 +109,7 @@ pub(crate) fn node_length(
     requires sound { IsKind inputs (length earlier.now) node.now.kind }
     requires set { IsSetFor node.now set.now }
     requires few { inputs ≤ 8 }
+    requires sizes { AreFew sizes.now }
     requires within { All (λ n. n ≤ 262144) earlier.now }
     requires total { total ≡ sum earlier.now }
     requires bound { total ≤ 2097152 }
@@ -163,6 +165,7 @@ fn no_plans(alloc: Global, count: usize) -> Result<Items<Option<SparsePlan>>, No
 /// The lengths of a graph's lists, none of whose needed nodes is a solver, or the node whose length breaks a rule.
 fn graph_lengths(alloc: Global, graph: &Graph, sizes: &[GraphSize]) -> Result<Fresh, NoMemory>
     requires sound { IsGraph graph.now }
+    requires sizes { AreFew sizes.now }
     requires plain { has_solver graph.now ≡ false }
     ensures { IfOk result (IsMeasured sizes.now graph.now) }
 {

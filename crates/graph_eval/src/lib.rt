@@ -5,8 +5,8 @@
 //! main graph's output at one point after another, in one block of [`words_needed`] words that is taken when it is made.
 #![tactic(auto)]
 
-mod calls;
 mod evaluation;
+mod frames;
 mod fresh;
 mod kinds;
 mod laws;
@@ -16,6 +16,7 @@ mod memos;
 mod needs;
 mod outcome;
 mod own;
+mod plain;
 mod shapes;
 mod systems;
 mod worker;

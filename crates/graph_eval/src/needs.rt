@@ -1,16 +1,18 @@
 //! How many words the evaluation of a graph needs, and where its lists stand.
 
-ghost use Rattle.std.specs.Prelude.{◌≡◌, ◌≤◌, IfOk, List, length, sum};
-ghost use Rattle.graph_file.specs.Sound.{IsGraph};
-ghost use Rattle.graph_eval.specs.Learned.{AreGraphs, Fits, FitsGraph};
-ghost use Rattle.graph_eval.specs.Needs.{AreTables, graph_words, kept_words, words_needed};
+ghost use Rattle.std.specs.Prelude.{◌≡◌, ℕ, ◌+◌, ◌<◌, ◌≤◌, IfOk, List, Some, length, slice_index, sum};
+ghost use Rattle.graph_file.specs.Sound.{CallsEarlier, IsGraph, called_graph};
+ghost use Rattle.graph_eval.specs.GraphValue.{main_number};
+ghost use Rattle.graph_eval.specs.Learned.{AreGraphs, CallEarlier, Fits, FitsFirst, FitsGraph};
+ghost use Rattle.graph_eval.specs.Needs.{AreTables, extra_of, graph_words, greatest_extra, node_extra, words_below, words_for, words_needed};
 ghost use Rattle.graph_eval.specs.Reading.{places_of};
+ghost use Rattle.graph_eval.specs.Systems.{HasFewUnknowns};
 ghost use Rattle.graph_eval.specs.declared.shapes.GraphSize.{GraphSize};
 
+use crate::frames::kept_words;
 use crate::learned::{GraphLearned, Learned};
-use crate::systems::greatest_work;
-use crate::worker::main_graph;
-use graph_file::{Graph, Job};
+use elim_core::Elim;
+use graph_file::{Graph, Job, Node, NodeKind};
 use ratfun_text::NoMemory;
 use sqlite_items::Items;
 use std::alloc::Global;
@@ -28,29 +30,94 @@ fn total_of(lengths: &[u32]) -> usize
     total
 }
 
-/// How many words a graph needs for its inputs, for the lists of its needed nodes, and for the work of one of these.
-fn graph_words(graph: &Graph, learned: &GraphLearned) -> usize
-    requires sound { IsGraph graph.now }
-    requires fits { (sizes : List GraphSize) × FitsGraph sizes graph.now learned.now }
-    ensures { result ≡ graph_words graph.now learned.now }
+/// How many words a node of this kind wants beside its list, where the graphs before its own want so many.
+pub(crate) fn extra_of(kind: &NodeKind, words: &[usize]) -> usize
+    requires few { HasFewUnknowns kind.now }
+    requires there { (called : ℕ) → called_graph kind.now ≡ Some called → called < length words.now }
+    ensures { result ≡ extra_of (slice_index words.now) kind.now }
 {
-    graph.inputs.len() + total_of(learned.lengths.as_slice()) + greatest_work(graph)
+    match kind {
+        NodeKind::Dense { unknowns, .. } | NodeKind::Sparse { unknowns, .. } => {
+            Elim::words(*unknowns as usize)
+        }
+        NodeKind::Call { graph, .. } | NodeKind::Memo { graph, .. } | NodeKind::Map { graph, .. } =>
+            { words[*graph as usize] }
+        _ => 0,
+    }
 }
 
-/// How many words a worker keeps from one point to the next.
-pub(crate) fn kept_words(_job: &Job, _learned: &Learned) -> usize
-    ensures { result ≡ kept_words _job.now.graphs _learned.now }
+/// How many words a node wants beside its list, 0 where it isn't needed.
+fn node_extra(node: &Node, words: &[usize]) -> usize
+    requires few { HasFewUnknowns node.now.kind }
+    requires there { (called : ℕ) → called_graph node.now.kind ≡ Some called → called < length words.now }
+    ensures { result ≡ node_extra (slice_index words.now) node.now }
 {
-    0
+    if !node.needed {
+        return 0;
+    }
+    extra_of(&node.kind, words)
+}
+
+/// The most that a node of a graph wants.
+fn greatest_extra(graph: &Graph, words: &[usize]) -> usize
+    requires sound { IsGraph graph.now }
+    requires there { CallsEarlier (length words.now) graph.now }
+    ensures { result ≡ greatest_extra (slice_index words.now) graph.now.nodes }
+{
+    let mut most = 0;
+    for node in graph.nodes.as_slice() {
+        most = node_extra(node, words).max(most);
+    }
+    most
+}
+
+/// How many words a graph needs for its inputs, for the lists of its needed nodes, and beside these for one of them.
+fn graph_words(graph: &Graph, learned: &GraphLearned, words: &[usize]) -> usize
+    requires sound { IsGraph graph.now }
+    requires there { CallsEarlier (length words.now) graph.now }
+    requires fits { (sizes : List GraphSize) × FitsGraph sizes graph.now learned.now }
+    requires bound { (k : ℕ) → slice_index words.now k ≤ 1152921504606846976 }
+    ensures words { result ≡ graph_words (slice_index words.now) graph.now learned.now }
+    ensures bound { (limit : ℕ) → 16801800 ≤ limit → ((k : ℕ) → slice_index words.now k ≤ limit) → result ≤ limit + 17592186044424 }
+{
+    graph.inputs.len() + total_of(learned.lengths.as_slice()) + greatest_extra(graph, words)
+}
+
+/// How many words each of the first graphs of a file needs, of which this was learned.
+pub(crate) fn words_of_each(graphs: &[Graph], learned: &[GraphLearned]) -> [usize; 64]
+    requires sound { AreGraphs graphs.now }
+    requires earlier { CallEarlier graphs.now }
+    requires few { length learned.now ≤ 64 }
+    requires within { length learned.now ≤ length graphs.now }
+    requires fits { FitsFirst graphs.now learned.now (length learned.now) }
+    ensures words { (k : ℕ) → slice_index result k ≡ words_below graphs.now learned.now (length learned.now) k }
+    ensures bound { (k : ℕ) → slice_index result k ≤ 1152921504606846976 }
+{
+    let mut words = [0; 64];
+    for (number, entry) in learned.iter().enumerate() {
+        words[number] = graph_words(&graphs[number], entry, &words);
+    }
+    words
+}
+
+/// How many words the main graph needs for its inputs, for the lists of its needed nodes, and beside these for one of them.
+fn main_words(job: &Job, learned: &Learned) -> usize
+    requires { Fits job.now.graphs learned.now }
+    ensures words { result ≡ words_for job.now.graphs learned.now (main_number job.now.graphs) }
+    ensures bound { result ≤ 1152921504606846976 }
+{
+    let graphs = job.graphs.as_slice();
+    let words = words_of_each(graphs, learned.all());
+    words[graphs.len() - 1]
 }
 
 /// How many words a worker's region has: those that it keeps from one point to the next, and those that the main graph
-/// needs for its inputs, for the lists of its needed nodes, and for the work of one of these.
+/// needs for its inputs, for the lists of its needed nodes, and beside these for one of them.
 pub fn words_needed(job: &Job, learned: &Learned) -> usize
     requires { Fits job.now.graphs learned.now }
     ensures { result ≡ words_needed job.now.graphs learned.now }
 {
-    kept_words(job, learned) + graph_words(main_graph(job), learned.last())
+    kept_words(job.graphs.as_slice(), learned.all()) + main_words(job, learned)
 }
 
 /// The places where so many inputs end, and behind them lists of these lengths.
@@ -69,20 +136,21 @@ fn places_of(alloc: Global, inputs: usize, lengths: &[u32]) -> Result<Items<usiz
     Ok(places)
 }
 
-/// For each graph the places where its inputs and its lists end.
+/// For each graph of which something was learned the places where its inputs and its lists end.
 pub(crate) fn tables_of(
     alloc: Global,
     graphs: &[Graph],
     learned: &[GraphLearned],
 ) -> Result<Items<Items<usize>>, NoMemory>
     requires sound { AreGraphs graphs.now }
-    requires fits { Fits graphs.now learned.now }
+    requires within { length learned.now ≤ length graphs.now }
+    requires fits { FitsFirst graphs.now learned.now (length learned.now) }
     ensures { IfOk result (AreTables graphs.now learned.now) }
 {
     let mut tables = Items::new(alloc);
-    for (number, graph) in graphs.iter().enumerate() {
-        let lengths = learned[number].lengths.as_slice();
-        tables.push(places_of(alloc, graph.inputs.len(), lengths)?)?;
+    for (number, entry) in learned.iter().enumerate() {
+        let lengths = entry.lengths.as_slice();
+        tables.push(places_of(alloc, graphs[number].inputs.len(), lengths)?)?;
     }
     Ok(tables)
 }

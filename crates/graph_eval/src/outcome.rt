@@ -1,5 +1,8 @@
 //! What a graph gives at a point.
 
+ghost use Rattle.std.specs.Prelude.{◌≡◌};
+ghost use Rattle.graph_eval.specs.Evaluated.{cause_told};
+
 use thiserror::Error;
 
 /// Why a node has no value.
@@ -18,6 +21,16 @@ pub enum Cause {
 pub struct Singular {
     pub node: u32,
     pub cause: Cause,
+}
+
+/// The cause alone.
+pub(crate) fn cause_told(answer: Result<(), Singular>) -> Result<(), Cause>
+    ensures { result ≡ cause_told answer }
+{
+    match answer {
+        Ok(()) => Ok(()),
+        Err(singular) => Err(singular.cause),
+    }
 }
 
 /// What a graph gives at a point: the list of its output, or a node without a value.

@@ -1,34 +1,37 @@
 //! What a node learns on the lists before it.
 
-ghost use Rattle.std.specs.Prelude.{◌≡◌, ◌+◌, ◌-◌, ◌*◌, ◌≤◌, ◌<◌, All, IfErr, IfOk, IsTrue, List, None, OnErr, OnOk, Some, [], false, length, slice_index, true};
+ghost use Rattle.std.specs.Prelude.{◌≡◌, ◌≢◌, ℕ, ◌+◌, ◌-◌, ◌*◌, ◌≤◌, ◌<◌, All, IfErr, IfOk, IsTrue, List, None, OnErr, OnOk, Some, [], false, length, slice_index, true};
 ghost use Rattle.prime_field.specs.Modulus.{value_of};
 ghost use Rattle.prime_field.specs.Residue.{IsPrime};
 ghost use Rattle.elim_core.specs.Kept.{HasSolution};
 ghost use Rattle.elim_core.specs.Solver.{AreUnknowns, IsAscending};
 ghost use Rattle.elim_core.specs.Sparse.{AreSparseRows, entries_of, rows_with};
 ghost use Rattle.graph_file.specs.Needed.{sources_of};
-ghost use Rattle.graph_file.specs.Sound.{IsKind};
-ghost use Rattle.graph_eval.specs.Evaluated.{no_graphs};
+ghost use Rattle.graph_file.specs.Sound.{IsKind, called_graph};
 ghost use Rattle.graph_eval.specs.Fresh.{HasPlanOrFails, IsOwnOf, NodeLearns};
-ghost use Rattle.graph_eval.specs.GraphValue.{NodeFails};
-ghost use Rattle.graph_eval.specs.Learned.{HasOwnLength, IsSetFor, plan_of, plan_over};
+ghost use Rattle.graph_eval.specs.GraphValue.{NodeFails, meanings};
+ghost use Rattle.graph_eval.specs.Learned.{AreGraphs, CallEarlier, FitsFirst, HasOwnLength, IsSetFor, listed_length, plan_of, plan_over, sets_of, sizes_of};
+ghost use Rattle.graph_eval.specs.Needs.{AreTables, words_below};
 ghost use Rattle.graph_eval.specs.Reading.{IsThere, placed};
 ghost use Rattle.graph_eval.specs.Stacked.{IsAdded};
-ghost use Rattle.graph_eval.specs.Systems.{rows_in, words_of};
-ghost use Rattle.graph_eval.specs.declared.shapes.GraphSize.{GraphSize};
+ghost use Rattle.graph_eval.specs.Systems.{AreEnoughFor, rows_in, words_of};
 
-use crate::evaluation::write_list;
+use crate::evaluation::{calls, push_call};
 use crate::kinds::placed;
+use crate::learned::GraphLearned;
+use crate::needs::extra_of;
 use crate::outcome::Cause;
+use crate::plain::write_list;
 use crate::shapes::entries_of;
 use crate::systems::own_set;
 use elim_core::SparseRow;
-use graph_file::{Node, NodeKind};
+use graph_file::{Graph, Node, NodeKind};
 use prime_field::Modulus;
 use ratfun_text::NoMemory;
 use sparse_solver::SparsePlan;
 use sqlite_items::Items;
 use std::alloc::Global;
+use word_region::Stack;
 
 /// What a node learns on the lists before it.
 #[derive(Debug, Drop)]
@@ -186,10 +189,82 @@ pub(crate) fn learn_node(
     }
 }
 
+/// Appends the list of a needed node that calls an earlier graph, or tells the cause where it has no value. The graph is
+/// evaluated on a stack of its own, above the lists so far.
+fn push_called(
+    alloc: Global,
+    m: Modulus,
+    graphs: &[Graph],
+    learned: &[GraphLearned],
+    tables: &[Items<usize>],
+    wanted: &[usize],
+    node: &Node,
+    count: usize,
+    words: &mut Vec<u64>,
+    places: &[usize],
+    work: &mut [u64],
+) -> Result<Result<(), Cause>, NoMemory>
+    requires sound_graphs { AreGraphs graphs.now }
+    requires earlier { CallEarlier graphs.now }
+    requires fits { FitsFirst graphs.now learned.now (length learned.now) }
+    requires tables { AreTables graphs.now learned.now tables.now }
+    requires wanted { (k : ℕ) → slice_index wanted.now k ≡ words_below graphs.now learned.now (length learned.now) k }
+    requires bound { (k : ℕ) → slice_index wanted.now k ≤ 1152921504606846976 }
+    requires many { length learned.now ≤ length wanted.now }
+    requires within { length learned.now < length graphs.now }
+    requires enough { AreEnoughFor graphs.now (length work.old) }
+    requires calls { (called : ℕ) → called_graph node.now.kind ≡ Some called → called < length learned.now }
+    requires count { count ≤ 262144 }
+    requires needed { IsTrue node.now.needed }
+    requires called { called_graph node.now.kind ≢ None }
+    requires kind { (variables : ℕ) × (place : ℕ) × IsKind variables place node.now.kind }
+    requires there { All (IsThere words.old.items places.now) (sources_of node.now.kind) }
+    requires residues { All (λ x. x < value_of m) words.old.items }
+    requires room { (set : List ℕ) × (listed_length (sizes_of graphs.now learned.now) (placed words.old.items places.now) set node.now.kind ≡ Some count) }
+    ensures ok { IfOk result (λ answer. OnOk answer ((set : List ℕ) (own : ℕ) → listed_length (sizes_of graphs.now learned.now) (placed words.old.items places.now) set node.now.kind ≡ Some own
+        → IsAdded (value_of m) (meanings (value_of m) graphs.now (sets_of learned.now) (length learned.now)) set (placed words.old.items places.now) node.now own words.old.items words.new.items)) }
+    ensures err { IfOk result (λ answer. IfErr answer (λ cause. IsPrime (value_of m) → (set : List ℕ)
+        → NodeFails (value_of m) (meanings (value_of m) graphs.now (sets_of learned.now) (length learned.now)) set (placed words.old.items places.now) node.now cause)) }
+{
+    let len = words.len();
+    let extra = extra_of(&node.kind, wanted);
+    let size = len + count + extra;
+    let mut stack = Stack::new(alloc, size, 0)?;
+    stack.push(words.as_slice());
+    let (number, mut moduli, mut counts) = (learned.len(), [], []);
+    match push_call(
+        m,
+        graphs,
+        learned,
+        tables,
+        &[],
+        &[],
+        number,
+        node,
+        0,
+        places,
+        0,
+        &mut moduli,
+        &mut counts,
+        &mut stack,
+        work,
+    ) {
+        Ok(()) => {}
+        Err(cause) => return Ok(Err(cause)),
+    }
+    words.extend_from_slice(&stack.words()[len..])?;
+    Ok(Ok(()))
+}
+
 /// Appends the list of a node over what it learned, which is empty where the node isn't needed, or tells the cause where it
 /// is needed and has no value. Then nothing is known of the words.
 pub(crate) fn push_own(
+    alloc: Global,
     m: Modulus,
+    graphs: &[Graph],
+    learned: &[GraphLearned],
+    tables: &[Items<usize>],
+    wanted: &[usize],
     node: &Node,
     own: &NodeLearned,
     count: usize,
@@ -197,15 +272,26 @@ pub(crate) fn push_own(
     places: &[usize],
     work: &mut [u64],
 ) -> Result<Result<(), Cause>, NoMemory>
+    requires sound_graphs { AreGraphs graphs.now }
+    requires earlier { CallEarlier graphs.now }
+    requires fits { FitsFirst graphs.now learned.now (length learned.now) }
+    requires tables { AreTables graphs.now learned.now tables.now }
+    requires wanted { (k : ℕ) → slice_index wanted.now k ≡ words_below graphs.now learned.now (length learned.now) k }
+    requires bound { (k : ℕ) → slice_index wanted.now k ≤ 1152921504606846976 }
+    requires many { length learned.now ≤ length wanted.now }
+    requires within { length learned.now < length graphs.now }
+    requires enough { AreEnoughFor graphs.now (length work.old) }
+    requires calls { (called : ℕ) → called_graph node.now.kind ≡ Some called → called < length learned.now }
+    requires count { count ≤ 262144 }
     requires sound { IsKind (slice_index places.now 0) (length places.now - 1) node.now.kind }
     requires there { All (IsThere words.old.items places.now) (sources_of node.now.kind) }
     requires set { IsSetFor node.now own.now.set }
     requires plan { HasPlanOrFails (value_of m) (placed words.old.items places.now) node.now own.now }
     requires work { IsTrue node.now.needed → words_of node.now.kind ≤ length work.old }
     requires residues { All (λ x. x < value_of m) words.old.items }
-    requires room { (sizes : List GraphSize) × HasOwnLength sizes (placed words.old.items places.now) own.now.set node.now count }
-    ensures ok { IfOk result (λ answer. OnOk answer (IsAdded (value_of m) no_graphs own.now.set (placed words.old.items places.now) node.now count words.old.items words.new.items)) }
-    ensures err { IfOk result (λ answer. IfErr answer (λ cause. IsPrime (value_of m) → NodeFails (value_of m) no_graphs own.now.set (placed words.old.items places.now) node.now cause)) }
+    requires room { HasOwnLength (sizes_of graphs.now learned.now) (placed words.old.items places.now) own.now.set node.now count }
+    ensures ok { IfOk result (λ answer. OnOk answer (IsAdded (value_of m) (meanings (value_of m) graphs.now (sets_of learned.now) (length learned.now)) own.now.set (placed words.old.items places.now) node.now count words.old.items words.new.items)) }
+    ensures err { IfOk result (λ answer. IfErr answer (λ cause. IsPrime (value_of m) → NodeFails (value_of m) (meanings (value_of m) graphs.now (sets_of learned.now) (length learned.now)) own.now.set (placed words.old.items places.now) node.now cause)) }
     ensures needed { IfOk result (λ answer. OnErr answer (IsTrue node.now.needed)) }
     ensures planned { IfOk result (λ answer. OnOk answer (own.now.plan ≡ plan_of own.now.set node.now)) }
 {
@@ -214,6 +300,11 @@ pub(crate) fn push_own(
     }
     if !node.needed {
         return Ok(Ok(()));
+    }
+    if calls(&node.kind) {
+        return push_called(
+            alloc, m, graphs, learned, tables, wanted, node, count, words, places, work,
+        );
     }
     let set = own.set.as_slice();
     let plan = own.plan.as_ref();

@@ -3,7 +3,7 @@
 ghost use Rattle.std.specs.Prelude.{◌≡◌, ◌≤◌, IfOk, length, map};
 ghost use Rattle.elim_core.specs.Sparse.{entries_of};
 ghost use Rattle.ratfun_text.specs.Value.{greatest};
-ghost use Rattle.graph_eval.specs.Learned.{greatest_among, shape_of, sizes_of};
+ghost use Rattle.graph_eval.specs.Learned.{greatest_among, shape_of, size_at, sizes_of};
 ghost use Rattle.graph_eval.specs.Systems.{HasFewEntries};
 
 use crate::learned::GraphLearned;
@@ -38,6 +38,20 @@ pub(crate) fn sizes_of(
         })?;
     }
     Ok(sizes)
+}
+
+/// The size of the graph with this number among these.
+fn size_at(sizes: &[GraphSize], graph: u32) -> GraphSize
+    ensures { result ≡ size_at sizes.now graph }
+{
+    let graph = graph as usize;
+    if graph >= sizes.len() {
+        return GraphSize {
+            inputs: 0,
+            outputs: 0,
+        };
+    }
+    sizes[graph]
 }
 
 /// The greatest position that an expression among these uses, 0 where none uses any.
@@ -79,10 +93,10 @@ pub(crate) fn shape_of(
     alloc: Global,
     kind: &NodeKind,
     set: &[u32],
-    _sizes: &[GraphSize],
+    sizes: &[GraphSize],
 ) -> Result<NodeShape, NoMemory>
     requires { HasFewEntries kind.now }
-    ensures { IfOk result (λ shape. shape ≡ shape_of _sizes.now set.now kind.now) }
+    ensures { IfOk result (λ shape. shape ≡ shape_of sizes.now set.now kind.now) }
 {
     Ok(match kind {
         NodeKind::Eval { exprs, .. } => NodeShape::Eval {
@@ -124,5 +138,19 @@ pub(crate) fn shape_of(
             wanted: want.len(),
             independent: set.len(),
         },
+        NodeKind::Call { graph, .. } | NodeKind::Memo { graph, .. } => {
+            let size = size_at(sizes, *graph);
+            NodeShape::Call {
+                inputs: size.inputs,
+                outputs: size.outputs,
+            }
+        }
+        NodeKind::Map { graph, .. } => {
+            let size = size_at(sizes, *graph);
+            NodeShape::Map {
+                inputs: size.inputs,
+                outputs: size.outputs,
+            }
+        }
     })
 }

@@ -1,6 +1,6 @@
 //! A worker, which evaluates a job's main graph at one point after another.
 
-ghost use Rattle.std.specs.Prelude.{◌≡◌, ◌-◌, Some, IfOk, length, slice_get};
+ghost use Rattle.std.specs.Prelude.{◌≡◌, ◌-◌, None, Some, IfOk, length, replicate, slice_get};
 ghost use Rattle.prime_field.specs.Modulus.{value_of};
 ghost use Rattle.prime_field.specs.Residue.{IsPrime};
 ghost use Rattle.graph_eval.specs.Evaluated.{FitsOutcome, HasInputs, outcome_of};
@@ -9,8 +9,10 @@ ghost use Rattle.graph_eval.specs.Learned.{Fits, outputs_of, sets_of};
 ghost use Rattle.graph_eval.specs.Made.{IsMadeFor};
 
 use crate::evaluation::evaluate;
+use crate::frames::{frames_of, kept_words};
 use crate::learned::Learned;
-use crate::needs::{kept_words, tables_of, words_needed};
+use crate::memos::MemoFrame;
+use crate::needs::{tables_of, words_needed};
 use crate::outcome::Outcome;
 use crate::systems::work_for;
 use graph_file::{Graph, Job};
@@ -28,6 +30,10 @@ pub struct Worker {
     stack: Stack,
     work: Vec<u64>,
     tables: Items<Items<usize>>,
+    slots: Items<Items<usize>>,
+    frames: Vec<MemoFrame>,
+    moduli: Vec<Option<Modulus>>,
+    counts: Vec<u64>,
 }
 
 /// The main graph of a job, which is the last of its graphs.
@@ -38,6 +44,17 @@ pub fn main_graph(job: &Job) -> &Graph
     &graphs[graphs.len() - 1]
 }
 
+/// No modulus for any of so many memos.
+fn nothing_kept(alloc: Global, count: usize) -> Result<Vec<Option<Modulus>>, NoMemory>
+    ensures { IfOk result (λ moduli. moduli.items ≡ replicate count None) }
+{
+    let mut moduli = Vec::new(alloc);
+    for _memo in 0..count {
+        moduli.push(None)?;
+    }
+    Ok(moduli)
+}
+
 impl Worker {
     /// A worker for a job and what was learned of its graphs, in a block of [`words_needed`] words.
     pub fn new(alloc: Global, job: &Job, learned: &Learned) -> Result<Worker, NoMemory>
@@ -45,12 +62,30 @@ impl Worker {
         ensures { IfOk result (IsMadeFor job.now.graphs learned.now) }
     {
         let graphs = job.graphs.as_slice();
+        let known = learned.all();
         let words = words_needed(job, learned);
+        let (slots, frames) = frames_of(alloc, graphs, known)?;
+        let moduli = nothing_kept(alloc, frames.len())?;
         Ok(Worker {
-            stack: Stack::new(alloc, words, kept_words(job, learned))?,
+            stack: Stack::new(alloc, words, kept_words(graphs, known))?,
             work: work_for(alloc, graphs)?,
-            tables: tables_of(alloc, graphs, learned.all())?,
+            tables: tables_of(alloc, graphs, known)?,
+            slots,
+            frames,
+            moduli,
+            counts: vec![in alloc; 0; graphs.len()]?,
         })
+    }
+
+    /// How often the graph with this number, counted from 0, was evaluated for a node that calls it. It stays once it is
+    /// 2^64 - 1, and is 0 where the job has no such graph.
+    pub fn evaluations(&self, graph: u32) -> u64 {
+        let counts = self.counts.as_slice();
+        let graph = graph as usize;
+        if graph >= counts.len() {
+            return 0;
+        }
+        counts[graph]
     }
 
     /// The number of free words of the block for lists.
@@ -88,8 +123,12 @@ impl Worker {
             graphs,
             learned.all(),
             self.tables.as_slice(),
+            self.slots.as_slice(),
+            self.frames.as_slice(),
             main,
             0,
+            self.moduli.as_mut_slice(),
+            self.counts.as_mut_slice(),
             &mut self.stack,
             self.work.as_mut_slice(),
         ) {

@@ -103,6 +103,7 @@ pub next-refused : (all : List (List ℕ)) (place : ℕ) (line : List ℕ) (afte
 next-refused all place line after kind.Syntax at counts bad = bad_at all place line kind.Syntax at counts bad
 next-refused all place line after kind.Version at counts bad = bad_at all place line kind.Version at counts bad
 next-refused all place line after kind.Repeated at counts bad = bad_at all place line kind.Repeated at counts bad
+next-refused all place line after kind.UnknownGraph at counts bad = bad_at all place line kind.UnknownGraph at counts bad
 next-refused all place line after kind.UnknownNode at counts bad = bad_at all place line kind.UnknownNode at counts bad
 next-refused all place line after kind.Residue at counts bad = bad_at all place line kind.Residue at counts bad
 next-refused all place line after kind.Limit at counts bad = bad_at all place line kind.Limit at counts bad
@@ -146,6 +147,7 @@ pub refused-at : (need : Need) (bytes : List ℕ) (place number : ℕ) (fault : 
 refused-at need bytes place number kind.Syntax before told = first_bad bytes place number kind.Syntax before told
 refused-at need bytes place number kind.Version before told = first_bad bytes place number kind.Version before told
 refused-at need bytes place number kind.Repeated before told = first_bad bytes place number kind.Repeated before told
+refused-at need bytes place number kind.UnknownGraph before told = first_bad bytes place number kind.UnknownGraph before told
 refused-at need bytes place number kind.UnknownNode before told = first_bad bytes place number kind.UnknownNode before told
 refused-at need bytes place number kind.Residue before told = first_bad bytes place number kind.Residue before told
 refused-at need bytes place number kind.Limit before told = first_bad bytes place number kind.Limit before told

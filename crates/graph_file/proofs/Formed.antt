@@ -19,7 +19,7 @@ use Rattle.graph_file.specs.declared.line.Statement.{Statement}
 use Rattle.graph_file.specs.declared.line.Statement.TheVariants.{Eval, Take, Matmul}
 use Rattle.graph_file.specs.declared.line.Want.{Want}
 use Rattle.graph_file.specs.declared.line.Want.TheVariants.{Numbers}
-use Rattle.graph_file.specs.Line.{both_degrees, bounds_from, bounds_line, coeff_from, coeff_line, which_of, wide_of, all_of, entry_of, size_of, flow_line, graph_line, input_line, output_line, point_line, eval_node, take_node, part_before, parts_of, slice_node, slice_from, chain_node, sum_node, product_node, matmul_node, sides_of, numbers_wanted, want_of, dense_from, dense_node, sparse_from, sparse_node, are_less, are_ascending, row_line, statement_of, node_line, line_of_words, line_of}
+use Rattle.graph_file.specs.Line.{both_degrees, bounds_from, bounds_line, coeff_from, coeff_line, which_of, wide_of, all_of, entry_of, size_of, flow_line, graph_line, input_line, output_line, point_line, eval_node, take_node, part_before, parts_of, slice_node, slice_from, chain_node, sum_node, product_node, matmul_node, sides_of, numbers_wanted, want_of, dense_from, dense_node, sparse_from, sparse_node, call_node, memo_node, map_node, are_less, are_ascending, row_line, statement_of, node_line, line_of_words, line_of}
 
 chosen : {A : Type 0} (P : A → Type 0) (b : Bool) (x y : Option A) → IfSome x P → IfSome y P → IfSome (cond b x y) P
 chosen P true x y first second = first
@@ -149,6 +149,21 @@ module _ (n : ℕ) where
   sparse_nodes (a ∷ []) = tt
   sparse_nodes (a ∷ b ∷ later) = sparse_systems a (size_of b) (want_of later) (wants later)
 
+  calls : (words : List (List ℕ)) → IfSome (call_node words) (IsWhole n)
+  calls [] = tt
+  calls (a ∷ []) = tt
+  calls (a ∷ b ∷ later) = omega arith
+
+  memos : (words : List (List ℕ)) → IfSome (memo_node words) (IsWhole n)
+  memos [] = tt
+  memos (a ∷ []) = tt
+  memos (a ∷ b ∷ later) = omega arith
+
+  maps : (words : List (List ℕ)) → IfSome (map_node words) (IsWhole n)
+  maps [] = tt
+  maps (a ∷ []) = tt
+  maps (a ∷ b ∷ later) = omega arith
+
   named : (name : List ℕ) (statement : Option Statement) → is_name name ≡ true → IfSome statement (IsWhole n) → IfSome (option_map (Node name) statement) (IsFormed n)
   named name None is whole = tt
   named name (Some statement) is whole = (is, whole)
@@ -224,7 +239,10 @@ statements line kind words =
     (chosen (IsWhole n) (bytes_eq kind (codes "product")) _ _ (products n words)
     (chosen (IsWhole n) (bytes_eq kind (codes "matmul")) _ _ (matmuls n words)
     (chosen (IsWhole n) (bytes_eq kind (codes "dense")) _ _ (dense_nodes n words)
-    (chosen (IsWhole n) (bytes_eq kind (codes "sparse")) _ None (sparse_nodes n words) tt))))))))
+    (chosen (IsWhole n) (bytes_eq kind (codes "sparse")) _ _ (sparse_nodes n words)
+    (chosen (IsWhole n) (bytes_eq kind (codes "call")) _ _ (calls n words)
+    (chosen (IsWhole n) (bytes_eq kind (codes "memo")) _ _ (memos n words)
+    (chosen (IsWhole n) (bytes_eq kind (codes "map")) _ None (maps n words) tt)))))))))))
 
 nodes : (line : List ℕ) (words : List (List ℕ)) → IfSome (node_line line words) (IsFormed (length line + 1))
 nodes line [] = tt

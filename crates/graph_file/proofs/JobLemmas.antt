@@ -35,6 +35,7 @@ use Rattle.graph_file.specs.Whole.{IsWholeOf}
 use Rattle.graph_file.specs.Sound.{IsGraph, IsJob, IsKind, IsNode}
 use Rattle.graph_file.proofs.MarkLemmas.{set-needed}
 use Rattle.graph_file.proofs.KindFacts.{reads_earlier}
+use Rattle.graph_file.proofs.CallLemmas.{calls-said}
 use Rattle.graph_file.proofs.GraphLemmas.{AreAll-last, AreAll-none, HasMain, main-graph, some-graph}
 use Rattle.graph_file.proofs.SoundLemmas.{input_with_output, named_with_input, whole_kind, whole_with_output}
 use Rattle.graph_file.specs.declared.line.Last.{Last}
@@ -193,6 +194,7 @@ module _ (reader : Reader) (need : Need) (all : List Line) (graphs : List Graph)
         bounded = omega (arith, are.counted, count, read.graphs_are.few);
         few_points = read.sound.few_points;
         graph = are.first.sound;
+        calls = λ k graph at. calls-said k all graph (are.first.said k graph at);
         distinct = λ i j first second at_first at_second equal. read.graphs_are.distinct i j first.name (name_at i first at_first) (name_at j second at_second ∙ ap (λ n. Some n) (sym equal));
         entries = λ k point graph at_point at_graph.
             let told : Some main_of.graph ≡ Some graph = sym main_of.there ∙ at_graph in

@@ -6,7 +6,7 @@ use Rattle.ratfun_text.specs.declared.expr.Expr.{Expr}
 use Rattle.graph_file.specs.Needed.{Reads, sources_of}
 use Rattle.graph_file.specs.Sound.{IsDense, IsEarlier, IsEval, IsKind, IsMatmul, IsSlice, IsSparse, IsTake}
 use Rattle.graph_file.specs.declared.graph.NodeKind.{NodeKind}
-use Rattle.graph_file.specs.declared.graph.NodeKind.TheVariants.{Eval, Take, Slice, Chain, Sum, Product, Matmul, Dense, Sparse}
+use Rattle.graph_file.specs.declared.graph.NodeKind.TheVariants.{Eval, Take, Slice, Chain, Sum, Product, Matmul, Dense, Sparse, Call, Memo, Map}
 use Rattle.graph_file.specs.declared.graph.Source.{Source}
 use Rattle.graph_file.specs.declared.graph.Source.TheVariants as source
 
@@ -34,6 +34,9 @@ sources_earlier variables number (Product parts) sound = sound.earlier
 sources_earlier variables number (Matmul left right rows mid cols) sound = either number left right sound.first sound.second
 sources_earlier variables number (Dense from rows unknowns want) sound = only number from sound.earlier
 sources_earlier variables number (Sparse from unknowns want rows) sound = only number from sound.earlier
+sources_earlier variables number (Call graph parts) sound = sound.earlier
+sources_earlier variables number (Memo graph parts) sound = sound.earlier
+sources_earlier variables number (Map graph parts) sound = sound.earlier
 
 -- a sound node reads nodes before it alone
 pub reads_earlier : (variables number : ℕ) (kind : NodeKind) → IsKind variables number kind → (k : ℕ) → Reads kind (source.Node k) → k < number
@@ -54,6 +57,9 @@ some_sources variables number (Product parts) sound none = some_left parts sound
 some_sources variables number (Matmul left right rows mid cols) sound none = cc
 some_sources variables number (Dense from rows unknowns want) sound none = cc
 some_sources variables number (Sparse from unknowns want rows) sound none = cc
+some_sources variables number (Call graph parts) sound none = some_left parts sound.some none
+some_sources variables number (Memo graph parts) sound none = some_left parts sound.some none
+some_sources variables number (Map graph parts) sound none = some_left parts sound.some none
 
 -- what a sound node is, by its kind
 module _ (variables number : ℕ) (kind : NodeKind) (sound : IsKind variables number kind) where

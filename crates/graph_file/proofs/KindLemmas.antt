@@ -11,12 +11,12 @@ use Rattle.ratfun_text.specs.Names.{last_argument}
 use Rattle.ratfun_text.specs.Value.{greatest}
 use Rattle.ratfun_text.specs.declared.expr.Expr.{Expr}
 use Rattle.ratfun_text.specs.declared.names.Names.TheVariants.{Listed, Numbered}
-use Rattle.graph_file.specs.Facts.{unknowns_of}
-use Rattle.graph_file.specs.Faults.{are_sides, is_counted, is_in_range, is_known, is_position, is_product, is_range, is_system, is_want, lists_in, names_in, names_over}
+use Rattle.graph_file.specs.Facts.{called_by, graph_named, unknowns_of}
+use Rattle.graph_file.specs.Faults.{are_sides, is_counted, is_in_range, is_known, is_not_among, is_position, is_product, is_range, is_system, is_want, lists_in, names_in, names_over}
 use Rattle.graph_file.specs.Reader.{node_stood}
 use Rattle.graph_file.specs.Formed.{IsWant, IsWhole}
 use Rattle.graph_file.specs.Line.{all_of, texts_in}
-use Rattle.graph_file.specs.Says.{AreTrees, kind_of, part_named, source_named, wanted}
+use Rattle.graph_file.specs.Says.{AreTrees, call_parts, kind_of, part_named, source_named, wanted}
 use Rattle.graph_file.specs.Reader.{HasNoRows, IsBegun, kind_stood, kind_unknowns}
 use Rattle.graph_file.specs.Sound.{AreLists, AreSides, IsDense, IsEarlier, IsPosition, IsSlice}
 use Rattle.graph_file.specs.declared.graph.NodeKind.{NodeKind}
@@ -25,10 +25,10 @@ use Rattle.graph_file.specs.declared.graph.Source.{Source}
 use Rattle.graph_file.specs.declared.graph.Source.TheVariants as source
 use Rattle.graph_file.specs.declared.line.Line.TheVariants as line
 use Rattle.graph_file.specs.declared.line.Statement.{Statement}
-use Rattle.graph_file.specs.declared.line.Statement.TheVariants.{Eval, Take, Slice, Chain, Sum, Product, Matmul, Dense, Sparse}
+use Rattle.graph_file.specs.declared.line.Statement.TheVariants.{Eval, Take, Slice, Chain, Sum, Product, Matmul, Dense, Sparse, Call, Memo, Map}
 use Rattle.graph_file.specs.declared.line.Want.{Want}
 use Rattle.graph_file.specs.declared.line.Want.TheVariants.{Every, Numbers}
-use Rattle.graph_file.proofs.Passes.{both, list_all-at}
+use Rattle.graph_file.proofs.Passes.{both, list_all-at, not_false}
 use Rattle.graph_file.proofs.TableLemmas.{is_some-position}
 
 -- an answer that is there was made of one
@@ -212,22 +212,28 @@ lists_are : (names lists : List (List ℕ)) (sources : List Source) → all_of (
 lists_are names lists sources e some = record { earlier = lists_earlier names lists sources e; some = omega (arith, some, length-answers (source_named names) lists sources e) }
 
 -- both lists of a product
-record AreMade (names : List (List ℕ)) (left right : Option Source) (rows mid cols : ℕ) (kind : NodeKind) : Type 0 where
-  first : Source
-  second : Source
-  left_is : left ≡ Some first
-  right_is : right ≡ Some second
-  is : node.Matmul first second rows mid cols ≡ kind
+pub record AreMade (names : List (List ℕ)) (left right : Option Source) (rows mid cols : ℕ) (kind : NodeKind) : Type 0 where
+  pub first : Source
+  pub second : Source
+  pub left_is : left ≡ Some first
+  pub right_is : right ≡ Some second
+  pub is : node.Matmul first second rows mid cols ≡ kind
 
-matmul_made : (names : List (List ℕ)) (left right : Option Source) (rows mid cols : ℕ) (kind : NodeKind) → option_and_then (λ l. option_map (λ r. node.Matmul l r rows mid cols) right) left ≡ Some kind → AreMade names left right rows mid cols kind
+pub matmul_made : (names : List (List ℕ)) (left right : Option Source) (rows mid cols : ℕ) (kind : NodeKind) → option_and_then (λ l. option_map (λ r. node.Matmul l r rows mid cols) right) left ≡ Some kind → AreMade names left right rows mid cols kind
 matmul_made names None right rows mid cols kind e = cc
 matmul_made names (Some l) right rows mid cols kind e =
     let made : IsMade (λ r. node.Matmul l r rows mid cols) right kind = made_of (λ r. node.Matmul l r rows mid cols) right kind e in
     record { first = l; second = made.from; left_is = refl; right_is = made.there; is = made.is }
 
+-- the parts of a call
+pub call_made : (number : Option ℕ) (lists : Option (List Source)) (call : ℕ × List Source) → option_and_then (λ n. option_map (λ parts. (n, parts)) lists) number ≡ Some call → (number ≡ Some call.0) × (lists ≡ Some call.1)
+call_made None lists call e = cc
+call_made (Some n) None call e = cc
+call_made (Some n) (Some parts) call e = let same : (n, parts) ≡ call = cc in (ap (λ (c : ℕ × List Source). Some c.0) same, ap (λ (c : ℕ × List Source). Some c.1) same)
+
 -- what a node computes is sound
-pub kind_sound : (names vs : List (List ℕ)) (exprs : List Expr) (name : List ℕ) (statement : Statement) (kind : NodeKind) (most : ℕ) → kind_of names exprs statement ≡ Some kind → IsWhole most statement → is_in_range statement ≡ true → AreTrees (names_in (Listed vs) (line.Node name statement)) (texts_in (line.Node name statement)) exprs → All (λ expr. greatest expr ≤ last_argument (names_in (Listed vs) (line.Node name statement))) exprs → IsBegun (length vs) (length names) kind
-kind_sound names vs exprs name (Eval from texts) kind most e whole ranges trees arguments =
+pub kind_sound : (graphs names vs : List (List ℕ)) (exprs : List Expr) (name : List ℕ) (statement : Statement) (kind : NodeKind) (most : ℕ) → kind_of graphs names exprs statement ≡ Some kind → IsWhole most statement → is_in_range statement ≡ true → AreTrees (names_in (Listed vs) (line.Node name statement)) (texts_in (line.Node name statement)) exprs → All (λ expr. greatest expr ≤ last_argument (names_in (Listed vs) (line.Node name statement))) exprs → IsBegun (length vs) (length names) kind
+kind_sound graphs names vs exprs name (Eval from texts) kind most e whole ranges trees arguments =
     let made : IsMade (λ f. node.Eval f exprs) (source_named names from) kind = made_of (λ f. node.Eval f exprs) (source_named names from) kind e in
     subst (IsBegun (length vs) (length names)) made.is
     (record {
@@ -242,7 +248,7 @@ kind_sound names vs exprs name (Eval from texts) kind most e whole ranges trees 
           let read : greatest (get_or exprs k expr) ≡ greatest expr = ap greatest (get_or_from_slice_get exprs k expr expr at) in
           omega (arith, bound, named, read);
     })
-kind_sound names vs exprs name (Take parts) kind most e whole ranges trees arguments =
+kind_sound graphs names vs exprs name (Take parts) kind most e whole ranges trees arguments =
     let made : IsMade node.Take (all_of (map (part_named names) parts)) kind = made_of node.Take (all_of (map (part_named names) parts)) kind e in
     subst (IsBegun (length vs) (length names)) made.is
     (record {
@@ -256,27 +262,27 @@ kind_sound names vs exprs name (Take parts) kind most e whole ranges trees argum
           let same : IsMade (λ list. (list, question.question.1)) (source_named names question.question.0) part = made_of (λ list. (list, question.question.1)) (source_named names question.question.0) part question.answer in
           subst IsPosition (ap (λ (w : Source × ℕ). w.1) same.is) (position_is question.question.1 in_range);
     })
-kind_sound names vs exprs name (Slice from first last) kind most e whole ranges trees arguments =
+kind_sound graphs names vs exprs name (Slice from first last) kind most e whole ranges trees arguments =
     let made : IsMade (λ f. node.Slice f first last) (source_named names from) kind = made_of (λ f. node.Slice f first last) (source_named names from) kind e in
     subst (IsBegun (length vs) (length names)) made.is (range_is (length names) made.from first last (named_earlier names from made.from made.there) ranges)
-kind_sound names vs exprs name (Chain parts) kind most e whole ranges trees arguments =
+kind_sound graphs names vs exprs name (Chain parts) kind most e whole ranges trees arguments =
     let made : IsMade node.Chain (all_of (map (source_named names) parts)) kind = made_of node.Chain (all_of (map (source_named names) parts)) kind e in
     subst (IsBegun (length vs) (length names)) made.is (lists_are names parts made.from made.there whole)
-kind_sound names vs exprs name (Sum parts) kind most e whole ranges trees arguments =
+kind_sound graphs names vs exprs name (Sum parts) kind most e whole ranges trees arguments =
     let made : IsMade node.Sum (all_of (map (source_named names) parts)) kind = made_of node.Sum (all_of (map (source_named names) parts)) kind e in
     subst (IsBegun (length vs) (length names)) made.is (lists_are names parts made.from made.there whole)
-kind_sound names vs exprs name (Product parts) kind most e whole ranges trees arguments =
+kind_sound graphs names vs exprs name (Product parts) kind most e whole ranges trees arguments =
     let made : IsMade node.Product (all_of (map (source_named names) parts)) kind = made_of node.Product (all_of (map (source_named names) parts)) kind e in
     subst (IsBegun (length vs) (length names)) made.is (lists_are names parts made.from made.there whole)
-kind_sound names vs exprs name (Matmul left right rows mid cols) kind most e whole ranges trees arguments =
+kind_sound graphs names vs exprs name (Matmul left right rows mid cols) kind most e whole ranges trees arguments =
     let made : AreMade names (source_named names left) (source_named names right) rows mid cols kind = matmul_made names (source_named names left) (source_named names right) rows mid cols kind e in
     subst (IsBegun (length vs) (length names)) made.is
     (record { first = named_earlier names left made.first made.left_is; second = named_earlier names right made.second made.right_is; sides = product_is rows mid cols ranges })
-kind_sound names vs exprs name (Dense from rows unknowns want) kind most e whole ranges trees arguments =
+kind_sound graphs names vs exprs name (Dense from rows unknowns want) kind most e whole ranges trees arguments =
     let made : IsMade (λ f. node.Dense f rows unknowns (wanted unknowns want)) (source_named names from) kind = made_of (λ f. node.Dense f rows unknowns (wanted unknowns want)) (source_named names from) kind e in
     subst (IsBegun (length vs) (length names)) made.is
     (system_is (length names) made.from rows unknowns want (named_earlier names from made.from made.there) ranges whole)
-kind_sound names vs exprs name (Sparse from unknowns want) kind most e whole ranges trees arguments =
+kind_sound graphs names vs exprs name (Sparse from unknowns want) kind most e whole ranges trees arguments =
     let made : IsMade (λ f. node.Sparse f unknowns (wanted unknowns want) []) (source_named names from) kind = made_of (λ f. node.Sparse f unknowns (wanted unknowns want) []) (source_named names from) kind e in
     let parts : (is_counted unknowns 4096 ≡ true) × (is_want unknowns want ≡ true) = both _ _ ranges in
     let width : (1 ≤ unknowns) × (unknowns ≤ 4096) = counted_is unknowns 4096 parts.0 in
@@ -291,6 +297,15 @@ kind_sound names vs exprs name (Sparse from unknowns want) kind most e whole ran
         filled = few;
       },
     )
+kind_sound graphs names vs exprs name (Call graph parts) kind most e whole ranges trees arguments =
+    let made : IsMade (λ (call : ℕ × List Source). node.Call call.0 call.1) (call_parts graphs names graph parts) kind = made_of (λ (call : ℕ × List Source). node.Call call.0 call.1) (call_parts graphs names graph parts) kind e in
+    subst (IsBegun (length vs) (length names)) made.is (lists_are names parts made.from.1 (call_made (graph_named graphs graph) (all_of (map (source_named names) parts)) made.from made.there).1 whole)
+kind_sound graphs names vs exprs name (Memo graph parts) kind most e whole ranges trees arguments =
+    let made : IsMade (λ (call : ℕ × List Source). node.Memo call.0 call.1) (call_parts graphs names graph parts) kind = made_of (λ (call : ℕ × List Source). node.Memo call.0 call.1) (call_parts graphs names graph parts) kind e in
+    subst (IsBegun (length vs) (length names)) made.is (lists_are names parts made.from.1 (call_made (graph_named graphs graph) (all_of (map (source_named names) parts)) made.from made.there).1 whole)
+kind_sound graphs names vs exprs name (Map graph parts) kind most e whole ranges trees arguments =
+    let made : IsMade (λ (call : ℕ × List Source). node.Map call.0 call.1) (call_parts graphs names graph parts) kind = made_of (λ (call : ℕ × List Source). node.Map call.0 call.1) (call_parts graphs names graph parts) kind e in
+    subst (IsBegun (length vs) (length names)) made.is (lists_are names parts made.from.1 (call_made (graph_named graphs graph) (all_of (map (source_named names) parts)) made.from made.there).1 whole)
 
 -- what a node's line says of what it computes
 pub record IsOf (statement : Statement) (kind : NodeKind) : Type 0 where
@@ -298,25 +313,31 @@ pub record IsOf (statement : Statement) (kind : NodeKind) : Type 0 where
   pub stood : kind_stood kind ≡ node_stood statement
   pub unknowns : kind_unknowns kind ≡ unknowns_of statement
 
-pub kind_is_of : (names : List (List ℕ)) (exprs : List Expr) (statement : Statement) (kind : NodeKind) → kind_of names exprs statement ≡ Some kind → IsOf statement kind
-kind_is_of names exprs (Eval from texts) kind e =
+pub kind_is_of : (graphs names : List (List ℕ)) (exprs : List Expr) (statement : Statement) (kind : NodeKind) → kind_of graphs names exprs statement ≡ Some kind → IsOf statement kind
+kind_is_of graphs names exprs (Eval from texts) kind e =
     subst (IsOf (Eval from texts)) (made_of (λ f. node.Eval f exprs) (source_named names from) kind e).is (record { no_rows = tt; stood = refl; unknowns = refl })
-kind_is_of names exprs (Take parts) kind e =
+kind_is_of graphs names exprs (Take parts) kind e =
     subst (IsOf (Take parts)) (made_of node.Take (all_of (map (part_named names) parts)) kind e).is (record { no_rows = tt; stood = refl; unknowns = refl })
-kind_is_of names exprs (Slice from first last) kind e =
+kind_is_of graphs names exprs (Slice from first last) kind e =
     subst (IsOf (Slice from first last)) (made_of (λ f. node.Slice f first last) (source_named names from) kind e).is (record { no_rows = tt; stood = refl; unknowns = refl })
-kind_is_of names exprs (Chain parts) kind e =
+kind_is_of graphs names exprs (Chain parts) kind e =
     subst (IsOf (Chain parts)) (made_of node.Chain (all_of (map (source_named names) parts)) kind e).is (record { no_rows = tt; stood = refl; unknowns = refl })
-kind_is_of names exprs (Sum parts) kind e =
+kind_is_of graphs names exprs (Sum parts) kind e =
     subst (IsOf (Sum parts)) (made_of node.Sum (all_of (map (source_named names) parts)) kind e).is (record { no_rows = tt; stood = refl; unknowns = refl })
-kind_is_of names exprs (Product parts) kind e =
+kind_is_of graphs names exprs (Product parts) kind e =
     subst (IsOf (Product parts)) (made_of node.Product (all_of (map (source_named names) parts)) kind e).is (record { no_rows = tt; stood = refl; unknowns = refl })
-kind_is_of names exprs (Matmul left right rows mid cols) kind e =
+kind_is_of graphs names exprs (Matmul left right rows mid cols) kind e =
     subst (IsOf (Matmul left right rows mid cols)) (matmul_made names (source_named names left) (source_named names right) rows mid cols kind e).is (record { no_rows = tt; stood = refl; unknowns = refl })
-kind_is_of names exprs (Dense from rows unknowns want) kind e =
+kind_is_of graphs names exprs (Dense from rows unknowns want) kind e =
     subst (IsOf (Dense from rows unknowns want)) (made_of (λ f. node.Dense f rows unknowns (wanted unknowns want)) (source_named names from) kind e).is (record { no_rows = tt; stood = refl; unknowns = refl })
-kind_is_of names exprs (Sparse from unknowns want) kind e =
+kind_is_of graphs names exprs (Sparse from unknowns want) kind e =
     subst (IsOf (Sparse from unknowns want)) (made_of (λ f. node.Sparse f unknowns (wanted unknowns want) []) (source_named names from) kind e).is (record { no_rows = refl; stood = refl; unknowns = refl })
+kind_is_of graphs names exprs (Call graph parts) kind e =
+    subst (IsOf (Call graph parts)) (made_of (λ (call : ℕ × List Source). node.Call call.0 call.1) (call_parts graphs names graph parts) kind e).is (record { no_rows = tt; stood = refl; unknowns = refl })
+kind_is_of graphs names exprs (Memo graph parts) kind e =
+    subst (IsOf (Memo graph parts)) (made_of (λ (call : ℕ × List Source). node.Memo call.0 call.1) (call_parts graphs names graph parts) kind e).is (record { no_rows = tt; stood = refl; unknowns = refl })
+kind_is_of graphs names exprs (Map graph parts) kind e =
+    subst (IsOf (Map graph parts)) (made_of (λ (call : ℕ × List Source). node.Map call.0 call.1) (call_parts graphs names graph parts) kind e).is (record { no_rows = tt; stood = refl; unknowns = refl })
 
 -- known lists have their nodes
 option_none : {A B : Type 0} (make : A → B) (o : Option A) → option_map make o ≡ None → o ≡ None
@@ -360,15 +381,30 @@ matmul_none None right rows mid cols e first second = first refl
 matmul_none (Some l) None rows mid cols e first second = second refl
 matmul_none (Some l) (Some r) rows mid cols e first second = cc
 
-pub kind-there : (names : List (List ℕ)) (exprs : List Expr) (statement : Statement) → list_all (is_known names) (lists_in statement) ≡ true → kind_of names exprs statement ≡ None → ⊥
-kind-there names exprs (Eval from texts) known none = source-known names from (both _ true known).0 (option_none _ (source_named names from) none)
-kind-there names exprs (Take parts) known none = answers-there (part_named names) (λ (part : List ℕ × ℕ). is_known names part.0) parts (part-known names) (list_all-parts (is_known names) parts known) (option_none node.Take _ none)
-kind-there names exprs (Slice from first last) known none = source-known names from (both _ true known).0 (option_none _ (source_named names from) none)
-kind-there names exprs (Chain parts) known none = answers-there (source_named names) (is_known names) parts (source-known names) known (option_none node.Chain _ none)
-kind-there names exprs (Sum parts) known none = answers-there (source_named names) (is_known names) parts (source-known names) known (option_none node.Sum _ none)
-kind-there names exprs (Product parts) known none = answers-there (source_named names) (is_known names) parts (source-known names) known (option_none node.Product _ none)
-kind-there names exprs (Matmul left right rows mid cols) known none =
+call_none : (number : Option ℕ) (lists : Option (List Source)) → option_and_then {U = ℕ × List Source} (λ n. option_map (λ parts. (n, parts)) lists) number ≡ None → (number ≡ None → ⊥) → (lists ≡ None → ⊥) → ⊥
+call_none None lists e first second = first refl
+call_none (Some n) None e first second = second refl
+call_none (Some n) (Some parts) e first second = cc
+
+graph-known : (graphs : List (List ℕ)) (graph : List ℕ) → not (list_any (λ other. bytes_eq other graph) graphs) ≡ false → graph_named graphs graph ≡ None → ⊥
+graph-known graphs graph known none = contradiction (graph_named graphs graph) (is_some-position (λ other. bytes_eq other graph) graphs ∙ not_false _ known) none
+
+call-there : (graphs names : List (List ℕ)) (graph : List ℕ) (parts : List (List ℕ)) → not (list_any (λ other. bytes_eq other graph) graphs) ≡ false → list_all (is_known names) parts ≡ true → call_parts graphs names graph parts ≡ None → ⊥
+call-there graphs names graph parts among known none =
+    call_none (graph_named graphs graph) (all_of (map (source_named names) parts)) none (graph-known graphs graph among) (answers-there (source_named names) (is_known names) parts (source-known names) known)
+
+pub kind-there : (graphs names : List (List ℕ)) (exprs : List Expr) (statement : Statement) → is_not_among graphs (called_by statement) ≡ false → list_all (is_known names) (lists_in statement) ≡ true → kind_of graphs names exprs statement ≡ None → ⊥
+kind-there graphs names exprs (Eval from texts) among known none = source-known names from (both _ true known).0 (option_none _ (source_named names from) none)
+kind-there graphs names exprs (Take parts) among known none = answers-there (part_named names) (λ (part : List ℕ × ℕ). is_known names part.0) parts (part-known names) (list_all-parts (is_known names) parts known) (option_none node.Take _ none)
+kind-there graphs names exprs (Slice from first last) among known none = source-known names from (both _ true known).0 (option_none _ (source_named names from) none)
+kind-there graphs names exprs (Chain parts) among known none = answers-there (source_named names) (is_known names) parts (source-known names) known (option_none node.Chain _ none)
+kind-there graphs names exprs (Sum parts) among known none = answers-there (source_named names) (is_known names) parts (source-known names) known (option_none node.Sum _ none)
+kind-there graphs names exprs (Product parts) among known none = answers-there (source_named names) (is_known names) parts (source-known names) known (option_none node.Product _ none)
+kind-there graphs names exprs (Matmul left right rows mid cols) among known none =
     let two : (is_known names left ≡ true) × ((is_known names right && true) ≡ true) = both (is_known names left) _ known in
     matmul_none (source_named names left) (source_named names right) rows mid cols none (source-known names left two.0) (source-known names right (both (is_known names right) true two.1).0)
-kind-there names exprs (Dense from rows unknowns want) known none = source-known names from (both _ true known).0 (option_none _ (source_named names from) none)
-kind-there names exprs (Sparse from unknowns want) known none = source-known names from (both _ true known).0 (option_none _ (source_named names from) none)
+kind-there graphs names exprs (Dense from rows unknowns want) among known none = source-known names from (both _ true known).0 (option_none _ (source_named names from) none)
+kind-there graphs names exprs (Sparse from unknowns want) among known none = source-known names from (both _ true known).0 (option_none _ (source_named names from) none)
+kind-there graphs names exprs (Call graph parts) among known none = call-there graphs names graph parts among known (option_none _ (call_parts graphs names graph parts) none)
+kind-there graphs names exprs (Memo graph parts) among known none = call-there graphs names graph parts among known (option_none _ (call_parts graphs names graph parts) none)
+kind-there graphs names exprs (Map graph parts) among known none = call-there graphs names graph parts among known (option_none _ (call_parts graphs names graph parts) none)

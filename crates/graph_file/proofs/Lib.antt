@@ -12,11 +12,13 @@ mod Passes
 mod KindLemmas
 mod Less
 pub mod KindFacts
+mod DepthLemmas
 mod TakeLemmas
 mod StepLemmas
 mod GraphLemmas
 mod BoundLemmas
 mod FileLemmas
+mod CallLemmas
 mod JobLemmas
 mod SaidBounds
 mod SaidNames

@@ -25,7 +25,7 @@ use Rattle.graph_file.specs.declared.line.Line.{Line}
 use Rattle.graph_file.specs.declared.line.Line.TheVariants as line
 use Rattle.graph_file.specs.declared.line.Statement.{Statement}
 use Rattle.graph_file.specs.Faults.{HasNoRefusal, HasRefusal, IsBadLine, IsGoodLine, IsRefused, fault, names_in}
-use Rattle.graph_file.specs.Facts.{node_names_in, variables_in}
+use Rattle.graph_file.specs.Facts.{earlier_names_in, node_names_in, variables_in}
 use Rattle.graph_file.specs.File.{IsBadAt, IsCutOff, IsFirstBad, IsFirstBadLine, IsGoodAt, IsGoodFile, IsTold, said}
 use Rattle.graph_file.specs.Line.{line_of, texts_in}
 use Rattle.graph_file.specs.Lines.{lines}
@@ -71,6 +71,7 @@ unfolding View
 view earlier o kind.Syntax bad = inl bad
 view earlier o kind.Version bad = inl bad
 view earlier o kind.Repeated bad = inl bad
+view earlier o kind.UnknownGraph bad = inl bad
 view earlier o kind.UnknownNode bad = inl bad
 view earlier o kind.Residue bad = inl bad
 view earlier o kind.Limit bad = inl bad
@@ -126,6 +127,7 @@ told_view : (need : Need) (all : List (List ℕ)) (number : ℕ) (told : FileKin
 told_view need all number kind.Syntax told = inl told
 told_view need all number kind.Version told = inl told
 told_view need all number kind.Repeated told = inl told
+told_view need all number kind.UnknownGraph told = inl told
 told_view need all number kind.UnknownNode told = inl told
 told_view need all number kind.Residue told = inl told
 told_view need all number kind.Limit told = inl told
@@ -178,7 +180,7 @@ same_trees names (text ∷ texts) (c ∷ a) (d ∷ b) x y =
 same_kind : (earlier : List Line) (name : List ℕ) (statement : Statement) (a b : NodeKind) → IsKindOf earlier name statement a → IsKindOf earlier name statement b → a ≡ b
 same_kind earlier name statement a b x y =
     let trees : x.exprs ≡ y.exprs = same_trees (names_in (Listed (variables_in earlier)) (line.Node name statement)) (texts_in (line.Node name statement)) x.exprs y.exprs x.trees y.trees in
-    let told : Some a ≡ Some b = sym x.kind_is ∙ ap (λ e. kind_of (node_names_in earlier) e statement) trees ∙ y.kind_is in
+    let told : Some a ≡ Some b = sym x.kind_is ∙ ap (λ e. kind_of (earlier_names_in earlier) (node_names_in earlier) e statement) trees ∙ y.kind_is in
     cc
 
 same_kinds : (earlier : List Line) (a b : List NodeKind) → AreKinds earlier a → AreKinds earlier b → a ≡ b

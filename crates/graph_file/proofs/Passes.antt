@@ -6,7 +6,7 @@ use Rattle.std.proofs.lemmas.Option.{slice_get-get_or}
 use Rattle.std.proofs.lemmas.Slice.Eq.{bytes_eq-Decides}
 use Rattle.ratfun_text.specs.Bytes.{is_name}
 use Rattle.graph_file.specs.declared.error.FileKind.{FileKind}
-use Rattle.graph_file.specs.declared.error.FileKind.TheVariants.{Syntax, Version, Repeated, UnknownNode, Residue, Limit}
+use Rattle.graph_file.specs.declared.error.FileKind.TheVariants.{Syntax, Version, Repeated, UnknownGraph, UnknownNode, Residue, Limit}
 use Rattle.graph_file.specs.declared.line.Last.{Last}
 use Rattle.graph_file.specs.declared.line.Last.TheVariants as last
 use Rattle.graph_file.specs.declared.line.Line.{Line}
@@ -14,9 +14,9 @@ use Rattle.graph_file.specs.declared.line.Degrees.{Degrees}
 use Rattle.graph_file.specs.declared.line.Which.{Which}
 use Rattle.graph_file.specs.declared.line.Line.TheVariants.{Flow, Graph, Input, Node, Row, Output, Point, Bounds, Coeff}
 use Rattle.graph_file.specs.declared.line.Statement.{Statement}
-use Rattle.graph_file.specs.declared.line.Statement.TheVariants.{Eval, Take, Slice, Chain, Sum, Product, Matmul, Dense, Sparse}
+use Rattle.graph_file.specs.declared.line.Statement.TheVariants.{Eval, Take, Slice, Chain, Sum, Product, Matmul, Dense, Sparse, Call, Memo, Map}
 use Rattle.graph_file.specs.Facts.{entries_in, graph_names_in, has_output, is_job_line, points_in, unknowns_in, variables_in}
-use Rattle.graph_file.specs.Faults.{are_columns, are_new, fault_after, fits, goes_on, is_entry, is_limit, is_repeated, is_residue, is_row_line, is_short, is_syntax, is_unknown_node, is_version, may_stand, takes_rows}
+use Rattle.graph_file.specs.Faults.{are_columns, are_new, fault_after, fits, goes_on, is_entry, is_limit, is_repeated, is_residue, is_row_line, is_short, is_syntax, is_unknown_graph, is_unknown_node, is_version, may_stand, takes_rows}
 use Rattle.poly_maps.specs.Point.{IsPoint}
 use Rattle.elim_core.specs.Solver.{IsAscending}
 use Rattle.elim_core.specs.Sparse.{IsSparseRow}
@@ -45,6 +45,7 @@ pub record Passes (earlier : List Line) (line : Line) : Type 0 where
   pub fitting : fits earlier line ≡ true
   pub first : is_version line ≡ false
   pub is_new : is_repeated earlier line ≡ false
+  pub graphs : is_unknown_graph earlier line ≡ false
   pub lists : is_unknown_node earlier line ≡ false
   pub residues : is_residue line ≡ false
   pub limits : is_limit earlier line ≡ false
@@ -54,7 +55,8 @@ passes earlier line e =
     let (syntax, after_syntax) = next (is_syntax earlier line) Syntax _ e in
     let (version, after_version) = next (is_version line) Version _ after_syntax in
     let (repeated, after_repeated) = next (is_repeated earlier line) Repeated _ after_version in
-    let (unknown, after_unknown) = next (is_unknown_node earlier line) UnknownNode _ after_repeated in
+    let (graph, after_graph) = next (is_unknown_graph earlier line) UnknownGraph _ after_repeated in
+    let (unknown, after_unknown) = next (is_unknown_node earlier line) UnknownNode _ after_graph in
     let (residue, after_residue) = next (is_residue line) Residue _ after_unknown in
     let (limit, _) = next (is_limit earlier line) Limit None after_residue in
     let parts : (not (may_stand earlier line) ≡ false) × (not (fits earlier line) ≡ false) = neither _ _ syntax in
@@ -63,6 +65,7 @@ passes earlier line e =
       fitting = not_false _ parts.1;
       first = version;
       is_new = repeated;
+      graphs = graph;
       lists = unknown;
       residues = residue;
       limits = limit;
@@ -79,6 +82,9 @@ of_statement (Product parts) line = refl
 of_statement (Matmul left right rows mid cols) line = refl
 of_statement (Dense from rows unknowns want) line = refl
 of_statement (Sparse from unknowns want) line = refl
+of_statement (Call graph parts) line = refl
+of_statement (Memo graph parts) line = refl
+of_statement (Map graph parts) line = refl
 
 pub stands_of : (earlier : List Line) (line : Line) → may_stand earlier line ≡ stands_behind (last_of earlier) line
 stands_of [] line = refl
@@ -102,6 +108,9 @@ ended_statement (Product parts) = refl
 ended_statement (Matmul left right rows mid cols) = refl
 ended_statement (Dense from rows unknowns want) = refl
 ended_statement (Sparse from unknowns want) = refl
+ended_statement (Call graph parts) = refl
+ended_statement (Memo graph parts) = refl
+ended_statement (Map graph parts) = refl
 
 pub ended_of : (earlier : List Line) → has_output earlier ≡ is_ended (last_of earlier)
 ended_of [] = refl

@@ -133,6 +133,9 @@ input_with_node (node.Product parts) = refl
 input_with_node (node.Matmul left right rows mid cols) = refl
 input_with_node (node.Dense from rows unknowns want) = refl
 input_with_node (node.Sparse from unknowns want rows) = refl
+input_with_node (node.Call graph parts) = refl
+input_with_node (node.Memo graph parts) = refl
+input_with_node (node.Map graph parts) = refl
 
 named_with_node : (kind : NodeKind) → has_name (kind_stood kind) ≡ true
 named_with_node kind = named_with_input (kind_stood kind) (input_with_node kind)
@@ -147,6 +150,9 @@ no_output_with_node (node.Product parts) = refl
 no_output_with_node (node.Matmul left right rows mid cols) = refl
 no_output_with_node (node.Dense from rows unknowns want) = refl
 no_output_with_node (node.Sparse from unknowns want rows) = refl
+no_output_with_node (node.Call graph parts) = refl
+no_output_with_node (node.Memo graph parts) = refl
+no_output_with_node (node.Map graph parts) = refl
 
 -- a node that isn't sparse waits for no rows
 filled_node : (kind : NodeKind) → (kind_stood kind ≡ last.Sparse → ⊥) → HasRows kind
@@ -159,6 +165,9 @@ filled_node (node.Product parts) other = tt
 filled_node (node.Matmul left right rows mid cols) other = tt
 filled_node (node.Dense from rows unknowns want) other = tt
 filled_node (node.Sparse from unknowns want rows) other = absurd (other refl)
+filled_node (node.Call graph parts) other = tt
+filled_node (node.Memo graph parts) other = tt
+filled_node (node.Map graph parts) other = tt
 
 -- a sparse node's rows are still to come
 open_node : (kind : NodeKind) → HasNoRows kind → has_rows (kind_stood kind) ≡ true → IsOpen (kind_unknowns kind) 0 kind
@@ -171,6 +180,9 @@ open_node (node.Product parts) none e = cc
 open_node (node.Matmul left right rows mid cols) none e = cc
 open_node (node.Dense from rows unknowns want) none e = cc
 open_node (node.Sparse from unknowns want rows) none e = (refl, ap entries_of none, λ some. absurd (some none))
+open_node (node.Call graph parts) none e = cc
+open_node (node.Memo graph parts) none e = cc
+open_node (node.Map graph parts) none e = cc
 
 few_of_node : (variables number : ℕ) (kind : NodeKind) → IsBegun variables number kind → kind_unknowns kind ≤ 4096
 few_of_node variables number (node.Eval from exprs) begun = omega arith
@@ -182,6 +194,9 @@ few_of_node variables number (node.Product parts) begun = omega arith
 few_of_node variables number (node.Matmul left right rows mid cols) begun = omega arith
 few_of_node variables number (node.Dense from rows unknowns want) begun = omega arith
 few_of_node variables number (node.Sparse from unknowns want rows) begun = begun.0
+few_of_node variables number (node.Call graph parts) begun = omega arith
+few_of_node variables number (node.Memo graph parts) begun = omega arith
+few_of_node variables number (node.Map graph parts) begun = omega arith
 
 -- a node that has its rows is sound
 pub whole_kind : (variables number : ℕ) (kind : NodeKind) → IsBegun variables number kind → HasRows kind → IsKind variables number kind
@@ -194,6 +209,9 @@ whole_kind variables number (node.Product parts) begun filled = begun
 whole_kind variables number (node.Matmul left right rows mid cols) begun filled = begun
 whole_kind variables number (node.Dense from rows unknowns want) begun filled = begun
 whole_kind variables number (node.Sparse from unknowns want rows) begun filled = begun.1 rows filled
+whole_kind variables number (node.Call graph parts) begun filled = begun
+whole_kind variables number (node.Memo graph parts) begun filled = begun
+whole_kind variables number (node.Map graph parts) begun filled = begun
 
 -- lists with one more element at their ends
 none_pushed : {X : Type 0} (xs : List X) (x : X) → xs ++ x ∷ [] ≡ [] → ⊥
@@ -251,6 +269,9 @@ has_row unknowns entries row (node.Sum parts) opened some is room = absurd opene
 has_row unknowns entries row (node.Product parts) opened some is room = absurd opened
 has_row unknowns entries row (node.Matmul left right rows mid cols) opened some is room = absurd opened
 has_row unknowns entries row (node.Dense from rows own want) opened some is room = absurd opened
+has_row unknowns entries row (node.Call graph parts) opened some is room = absurd opened
+has_row unknowns entries row (node.Memo graph parts) opened some is room = absurd opened
+has_row unknowns entries row (node.Map graph parts) opened some is room = absurd opened
 has_row unknowns entries row (node.Sparse from own want rows) opened some is room =
     let few : AreFewRows own (rows ++ row ∷ []) = few_pushed own rows row opened.2 some (subst (λ (u : ℕ). IsSparseRow u row) (sym opened.0) is) (omega (arith, opened.1, room)) in
     record {

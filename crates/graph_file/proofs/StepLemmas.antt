@@ -28,7 +28,7 @@ use Rattle.graph_file.specs.Says.{AreTrees, kind_of, source_named, with_row}
 use Rattle.graph_file.proofs.KindLemmas.{kind_is_of, source-earlier}
 use Rattle.graph_file.proofs.Passes.{graph-passed, graphs-passed, point-passed, room-passed, row-passed, stands-bounds, stands-coeff, stands-input, stands-node, stands-output, stands-point, stands-row, unasked-behind, variables-passed, whole-node, whole-output}
 use Rattle.graph_file.proofs.SoundLemmas.{IsSound-graph, IsSound-input, IsSound-job, IsSound-node, IsSound-output, IsSound-point, IsSound-row, input_with_output}
-use Rattle.graph_file.proofs.TakeLemmas.{names_count, node-few, node-new, node-sound, passed, stands-next, variables-kept}
+use Rattle.graph_file.proofs.TakeLemmas.{earlier_graphs, names_count, node-few, node-new, node-sound, passed, stands-next, variables-kept}
 
 module _ (reader : Reader) where
   pub graph-fits : (name : List ℕ) (none : Names) (no_names : List (List ℕ)) (no_nodes : List NodeOf) (points : List (List ℕ)) → ((most : ℕ) × IsFormed most (Graph name)) → IsNextTo reader (Graph name) → none ≡ Listed [] → no_names ≡ [] → no_nodes ≡ [] → points ≡ reader.asked.points → IsSound last.Graph (Some name) none no_names no_nodes 0 0 None points
@@ -82,7 +82,7 @@ module _ (reader : Reader) where
   pub coeff-fits : (num den : ℕ) → IsNextTo reader (Coeff num den) → IsSound last.Job reader.name reader.variables reader.table.names reader.nodes.items reader.unknowns reader.entries reader.output reader.asked.points
   coeff-fits num den next = IsSound-job _ _ _ _ _ _ _ _ _ next.read.sound (stands-coeff reader.stood num den (stands-next reader (Coeff num den) next))
 
-  pub node-fits : (name : List ℕ) (statement : Statement) (exprs : List Expr) (kind : NodeKind) (stood' : Last) (names' : List (List ℕ)) (nodes' : List NodeOf) (unknowns' : ℕ) → ((most : ℕ) × IsFormed most (Node name statement)) → IsNextTo reader (Node name statement) → kind_of reader.table.names exprs statement ≡ Some kind → AreTrees (names_for reader.variables statement) (texts_of statement) exprs → All (λ expr. greatest expr ≤ last_argument (names_for reader.variables statement)) exprs → stood' ≡ kind_stood kind → names' ≡ reader.table.names ++ name ∷ [] → nodes' ≡ reader.nodes.items ++ (record { name = name; kind = kind; needed = false }) ∷ [] → unknowns' ≡ kind_unknowns kind → IsSound stood' reader.name reader.variables names' nodes' unknowns' 0 reader.output reader.asked.points
+  pub node-fits : (name : List ℕ) (statement : Statement) (exprs : List Expr) (kind : NodeKind) (stood' : Last) (names' : List (List ℕ)) (nodes' : List NodeOf) (unknowns' : ℕ) → ((most : ℕ) × IsFormed most (Node name statement)) → IsNextTo reader (Node name statement) → kind_of (earlier_graphs reader) reader.table.names exprs statement ≡ Some kind → AreTrees (names_for reader.variables statement) (texts_of statement) exprs → All (λ expr. greatest expr ≤ last_argument (names_for reader.variables statement)) exprs → stood' ≡ kind_stood kind → names' ≡ reader.table.names ++ name ∷ [] → nodes' ≡ reader.nodes.items ++ (record { name = name; kind = kind; needed = false }) ∷ [] → unknowns' ≡ kind_unknowns kind → IsSound stood' reader.name reader.variables names' nodes' unknowns' 0 reader.output reader.asked.points
   node-fits name statement exprs kind stood' names' nodes' unknowns' formed next is trees arguments more_stood more_names more_nodes more_unknowns =
       let stands = stands-next reader (Node name statement) next in
-      IsSound-node _ _ _ _ reader.nodes.items _ _ _ _ next.read.sound (record { name = name; kind = kind; needed = false }) stood' names' nodes' unknowns' (unasked-behind reader.stood (Node name statement) refl stands) (stands-node reader.stood name statement stands) (whole-node reader.stood name statement stands) (node-few reader name statement next) (node-new reader name statement next) (node-sound reader name statement next exprs kind formed is trees arguments) (kind_is_of reader.table.names exprs statement kind is).no_rows more_stood more_names more_nodes more_unknowns
+      IsSound-node _ _ _ _ reader.nodes.items _ _ _ _ next.read.sound (record { name = name; kind = kind; needed = false }) stood' names' nodes' unknowns' (unasked-behind reader.stood (Node name statement) refl stands) (stands-node reader.stood name statement stands) (whole-node reader.stood name statement stands) (node-few reader name statement next) (node-new reader name statement next) (node-sound reader name statement next exprs kind formed is trees arguments) (kind_is_of (earlier_graphs reader) reader.table.names exprs statement kind is).no_rows more_stood more_names more_nodes more_unknowns

@@ -1,5 +1,5 @@
 -- One line is read.
-use Rattle.std.proofs.Common.{◌≡◌, ◌≢◌, ◌<◌, ◌≤◌, ℕ, Bool, true, false, not, ◌&&◌, cond, refl, sym, ap, subst, ◌∙◌, List, ◌∷◌, length, Option, Some, None, Ok, Err, arith, bytes_eq, codes, nat_lt, All, IfSome}
+use Rattle.std.proofs.Common.{◌≡◌, ◌≢◌, ◌<◌, ◌≤◌, ◌-◌, ℕ, take, nat_le, Bool, true, false, not, ◌&&◌, cond, refl, sym, ap, subst, ◌∙◌, List, ◌∷◌, length, Option, Some, None, Ok, Err, arith, bytes_eq, codes, nat_lt, All, IfSome}
 use Rattle.std.specs.List.{list_all, list_any}
 use Rattle.std.proofs.lemmas.Bool.Decides.{nat_tests}
 use Rattle.std.proofs.lemmas.List.{length-map}
@@ -18,8 +18,9 @@ use Rattle.graph_file.specs.declared.line.Line.{Line}
 use Rattle.graph_file.specs.declared.line.Line.TheVariants as line
 use Rattle.graph_file.specs.declared.line.Statement.{Statement}
 use Rattle.graph_file.specs.declared.reader.Reader.{Reader}
-use Rattle.graph_file.specs.Faults.{AreFaultless, fault, fault_after, is_in_range, is_known, is_limit, is_repeated, is_residue, is_short, is_syntax, is_unknown_node, is_version, lists_in, may_stand, names_for, names_in}
-use Rattle.graph_file.specs.Facts.{variables_in}
+use Rattle.graph_file.specs.Faults.{AreFaultless, fault, fault_after, is_in_range, is_known, is_limit, is_not_among, is_repeated, is_residue, is_shallow, is_short, is_syntax, is_unknown_graph, is_unknown_node, is_version, lists_in, may_stand, names_for, names_in}
+use Rattle.graph_file.specs.Facts.{called_by, depth_over, depths_in, earlier_names_in, graph_names_in, variables_in}
+use Rattle.graph_file.proofs.DepthLemmas.{earlier-names}
 use Rattle.graph_file.specs.Formed.{IsFormed}
 use Rattle.graph_file.specs.Line.{line_of, texts_in, texts_of}
 use Rattle.graph_file.specs.Parsed.{AreParsed}
@@ -41,10 +42,29 @@ variables-kept earlier reader read = ap (λ (v : Names). length (variables_of v)
 pub names_count : (reader : Reader) → FitsTogether reader → length reader.table.names ≡ length reader.nodes.items
 names_count reader sound = ap length (sym sound.names_are) ∙ length-map reader.nodes.items (λ (node : Node). node.name)
 
+-- the names of the graphs before the one in hand
+abbrev pub earlier_graphs : Reader → List (List ℕ)
+earlier_graphs reader = take (length reader.graphs) reader.graph_names.names
+
+pub graphs-kept : (earlier : List Line) (reader : Reader) → IsRead earlier reader → earlier_graphs reader ≡ earlier_names_in earlier
+graphs-kept earlier reader read =
+    let count : length reader.graphs ≡ length (graph_names_in earlier) - 1 = read.graphs_are.counted ∙ ap (λ (l : List (List ℕ)). length l - 1) read.graphs_are.names_are in
+    ap (λ n. take n reader.graph_names.names) count ∙ ap (take (length (graph_names_in earlier) - 1)) read.graphs_are.names_are ∙ earlier-names earlier
+
 -- a node's line
 module _ (reader : Reader) (name : List ℕ) (statement : Statement) (next : IsNextTo reader (line.Node name statement)) where
+  all_limits : ((is_short name && nat_lt (length reader.table.names) 4096 && is_in_range statement) ≡ true) × (is_shallow next.earlier statement ≡ true)
+  all_limits = both _ _ (subst (λ (ns : List (List ℕ)). (is_short name && nat_lt (length ns) 4096 && is_in_range statement && is_shallow next.earlier statement) ≡ true) (sym next.read.names_are) (not_false _ (passed reader (line.Node name statement) next).limits))
+
   limits : ((is_short name && nat_lt (length reader.table.names) 4096 && is_in_range statement) ≡ true)
-  limits = subst (λ (ns : List (List ℕ)). (is_short name && nat_lt (length ns) 4096 && is_in_range statement) ≡ true) (sym next.read.names_are) (not_false _ (passed reader (line.Node name statement) next).limits)
+  limits = all_limits.0
+
+  pub node-shallow : depth_over (earlier_graphs reader) reader.depths.items (called_by statement) ≤ 8
+  node-shallow =
+      let shallow : nat_le (depth_over (earlier_names_in next.earlier) (depths_in next.earlier) (called_by statement)) 8 ≡ true = all_limits.1 in
+      let low : depth_over (earlier_names_in next.earlier) (depths_in next.earlier) (called_by statement) ≤ 8 = grind (arith, nat_tests) in
+      subst (λ (gs : List (List ℕ)). depth_over gs reader.depths.items (called_by statement) ≤ 8) (sym (graphs-kept next.earlier reader next.read))
+      (subst (λ (ds : List ℕ). depth_over (earlier_names_in next.earlier) ds (called_by statement) ≤ 8) (sym next.read.depths_are.are) low)
 
   unlike : (bytes_eq name (codes "input") ≡ false) × (list_any (λ other. bytes_eq other name) reader.table.names ≡ false)
   unlike = subst (λ (ns : List (List ℕ)). (bytes_eq name (codes "input") ≡ false) × (list_any (λ other. bytes_eq other name) ns ≡ false)) (sym next.read.names_are) (neither (bytes_eq name (codes "input")) _ (passed reader (line.Node name statement) next).is_new)
@@ -64,16 +84,16 @@ module _ (reader : Reader) (name : List ℕ) (statement : Statement) (next : IsN
       let like : bytes_eq name (codes "input") ≡ true = (bytes_eq-Decides name (codes "input")).1 same in
       let never : true ≡ false = sym like ∙ unlike.0 in cc
 
-  pub node-there : (exprs : List Expr) → kind_of reader.table.names exprs statement ≡ None → ⊥
-  node-there exprs none = kind-there reader.table.names exprs statement (subst (λ (ns : List (List ℕ)). list_all (is_known ns) (lists_in statement) ≡ true) (sym next.read.names_are) (not_false _ (passed reader (line.Node name statement) next).lists)) none
+  pub node-there : (exprs : List Expr) → kind_of (earlier_graphs reader) reader.table.names exprs statement ≡ None → ⊥
+  node-there exprs none = kind-there (earlier_graphs reader) reader.table.names exprs statement (subst (λ (gs : List (List ℕ)). is_not_among gs (called_by statement) ≡ false) (sym (graphs-kept next.earlier reader next.read)) (passed reader (line.Node name statement) next).graphs) (subst (λ (ns : List (List ℕ)). list_all (is_known ns) (lists_in statement) ≡ true) (sym next.read.names_are) (not_false _ (passed reader (line.Node name statement) next).lists)) none
 
-  pub node-sound : (exprs : List Expr) (computed : NodeKind) → ((most : ℕ) × IsFormed most (line.Node name statement)) → kind_of reader.table.names exprs statement ≡ Some computed → AreTrees (names_for reader.variables statement) (texts_of statement) exprs → All (λ expr. greatest expr ≤ last_argument (names_for reader.variables statement)) exprs → IsBegunNode (length (variables_of reader.variables)) (length reader.nodes.items) (record { name = name; kind = computed; needed = false })
+  pub node-sound : (exprs : List Expr) (computed : NodeKind) → ((most : ℕ) × IsFormed most (line.Node name statement)) → kind_of (earlier_graphs reader) reader.table.names exprs statement ≡ Some computed → AreTrees (names_for reader.variables statement) (texts_of statement) exprs → All (λ expr. greatest expr ≤ last_argument (names_for reader.variables statement)) exprs → IsBegunNode (length (variables_of reader.variables)) (length reader.nodes.items) (record { name = name; kind = computed; needed = false })
   node-sound exprs computed formed is trees arguments =
       let ranges : is_in_range statement ≡ true = (both _ (is_in_range statement) limits).1 in
       let vs : List (List ℕ) = variables_of reader.variables in
       let listed_trees : AreTrees (names_for (Listed vs) statement) (texts_of statement) exprs = subst (λ (v : Names). AreTrees (names_for v statement) (texts_of statement) exprs) next.read.sound.listed trees in
       let listed_arguments : All (λ expr. greatest expr ≤ last_argument (names_for (Listed vs) statement)) exprs = subst (λ (v : Names). All (λ (expr : Expr). greatest expr ≤ last_argument (names_for v statement)) exprs) next.read.sound.listed arguments in
-      let sound : IsBegun (length vs) (length reader.table.names) computed = kind_sound reader.table.names vs exprs name statement computed formed.0 is formed.1.1 ranges listed_trees listed_arguments in
+      let sound : IsBegun (length vs) (length reader.table.names) computed = kind_sound (earlier_graphs reader) reader.table.names vs exprs name statement computed formed.0 is formed.1.1 ranges listed_trees listed_arguments in
       record {
         named = formed.1.0;
         short = at_most_32 name (both (is_short name) _ (both _ (is_in_range statement) limits).0).0;
@@ -82,11 +102,11 @@ module _ (reader : Reader) (name : List ℕ) (statement : Statement) (next : IsN
       }
 
 -- what the node of a line computes
-pub kind-said : (earlier : List Line) (reader : Reader) (name : List ℕ) (statement : Statement) (exprs : List Expr) (computed : NodeKind) → IsRead earlier reader → kind_of reader.table.names exprs statement ≡ Some computed → AreTrees (names_for reader.variables statement) (texts_of statement) exprs → IsKindOf earlier name statement computed
+pub kind-said : (earlier : List Line) (reader : Reader) (name : List ℕ) (statement : Statement) (exprs : List Expr) (computed : NodeKind) → IsRead earlier reader → kind_of (earlier_graphs reader) reader.table.names exprs statement ≡ Some computed → AreTrees (names_for reader.variables statement) (texts_of statement) exprs → IsKindOf earlier name statement computed
 kind-said earlier reader name statement exprs computed read is trees = record {
   exprs = exprs;
   trees = subst (λ (v : Names). AreTrees (names_for v statement) (texts_of statement) exprs) read.variables_are trees;
-  kind_is = ap (λ names. kind_of names exprs statement) (sym read.names_are) ∙ is;
+  kind_is = ap (λ names. kind_of (earlier_names_in earlier) names exprs statement) (sym read.names_are) ∙ ap (λ graphs. kind_of graphs reader.table.names exprs statement) (sym (graphs-kept earlier reader read)) ∙ is;
 }
 
 -- an output's line
@@ -102,7 +122,8 @@ never_expr about said number error e =
     let a = skip (is_syntax about said) kind.Syntax (kind.Expr number error) _ (λ f. cc) e in
     let b = skip (is_version said) kind.Version (kind.Expr number error) _ (λ f. cc) a in
     let c = skip (is_repeated about said) kind.Repeated (kind.Expr number error) _ (λ f. cc) b in
-    let d = skip (is_unknown_node about said) kind.UnknownNode (kind.Expr number error) _ (λ f. cc) c in
+    let h = skip (is_unknown_graph about said) kind.UnknownGraph (kind.Expr number error) _ (λ f. cc) c in
+    let d = skip (is_unknown_node about said) kind.UnknownNode (kind.Expr number error) _ (λ f. cc) h in
     let f = skip (is_residue said) kind.Residue (kind.Expr number error) _ (λ f. cc) d in
     let g : None ≡ Some (kind.Expr number error) = skip (is_limit about said) kind.Limit (kind.Expr number error) None (λ f. cc) f in
     cc
@@ -112,7 +133,8 @@ never_missing about said e =
     let a = skip (is_syntax about said) kind.Syntax kind.Missing _ (λ f. cc) e in
     let b = skip (is_version said) kind.Version kind.Missing _ (λ f. cc) a in
     let c = skip (is_repeated about said) kind.Repeated kind.Missing _ (λ f. cc) b in
-    let d = skip (is_unknown_node about said) kind.UnknownNode kind.Missing _ (λ f. cc) c in
+    let h = skip (is_unknown_graph about said) kind.UnknownGraph kind.Missing _ (λ f. cc) c in
+    let d = skip (is_unknown_node about said) kind.UnknownNode kind.Missing _ (λ f. cc) h in
     let f = skip (is_residue said) kind.Residue kind.Missing _ (λ f. cc) d in
     let g : None ≡ Some kind.Missing = skip (is_limit about said) kind.Limit kind.Missing None (λ f. cc) f in
     cc
@@ -126,6 +148,7 @@ told_of : (earlier : List Line) (after : Reader) (said : Line) (told : FileKind)
 told_of earlier after said kind.Syntax e = e
 told_of earlier after said kind.Version e = e
 told_of earlier after said kind.Repeated e = e
+told_of earlier after said kind.UnknownGraph e = e
 told_of earlier after said kind.UnknownNode e = e
 told_of earlier after said kind.Residue e = e
 told_of earlier after said kind.Limit e = e
@@ -141,6 +164,7 @@ refused_of : (earlier : List Line) (after : Reader) (said : Line) (told : FileKi
 refused_of earlier after said kind.Syntax none parsed = absurd parsed
 refused_of earlier after said kind.Version none parsed = absurd parsed
 refused_of earlier after said kind.Repeated none parsed = absurd parsed
+refused_of earlier after said kind.UnknownGraph none parsed = absurd parsed
 refused_of earlier after said kind.UnknownNode none parsed = absurd parsed
 refused_of earlier after said kind.Residue none parsed = absurd parsed
 refused_of earlier after said kind.Limit none parsed = absurd parsed

@@ -7,13 +7,13 @@ use Rattle.ratfun_text.specs.declared.names.Names.{Names}
 use Rattle.ratfun_text.specs.declared.names.Names.TheVariants.{Listed, Numbered}
 use Rattle.ratfun_text.specs.declared.parse.ExprError.{ExprError}
 use Rattle.graph_file.specs.declared.error.FileKind.{FileKind}
-use Rattle.graph_file.specs.declared.error.FileKind.TheVariants.{Syntax, Version, Repeated, UnknownNode, Residue, Limit, Expr}
+use Rattle.graph_file.specs.declared.error.FileKind.TheVariants.{Syntax, Version, Repeated, UnknownGraph, UnknownNode, Residue, Limit, Expr}
 use Rattle.graph_file.specs.declared.job.Special.{Special}
 use Rattle.graph_file.specs.declared.line.Degrees.{Degrees}
 use Rattle.graph_file.specs.declared.line.Line.{Line}
 use Rattle.graph_file.specs.declared.line.Line.TheVariants.{Flow, Graph, Input, Node, Row, Output, Point, Bounds, Coeff}
 use Rattle.graph_file.specs.declared.line.Statement.{Statement}
-use Rattle.graph_file.specs.declared.line.Statement.TheVariants.{Eval, Take, Slice, Chain, Sum, Product, Matmul, Dense, Sparse}
+use Rattle.graph_file.specs.declared.line.Statement.TheVariants.{Eval, Take, Slice, Chain, Sum, Product, Matmul, Dense, Sparse, Call, Memo, Map}
 use Rattle.graph_file.specs.declared.line.Want.{Want}
 use Rattle.graph_file.specs.declared.line.Want.TheVariants.{Every, Numbers}
 use Rattle.graph_file.specs.declared.line.Which.{Which}
@@ -24,7 +24,7 @@ use Rattle.ray_grid.specs.Grid.{point_count}
 use Rattle.ray_grid.specs.declared.grid.Grid.{Grid}
 use Rattle.multivar_recon.specs.Covering.{monomial_count}
 use Rattle.graph_file.specs.Bounding.{all_in, bounds_given, bounds_said, coeff_in, grid_with, special_in, widest}
-use Rattle.graph_file.specs.Facts.{entries_in, graph_names_in, is_job_line, node_names_in, points_in, unknowns_in, variables_in}
+use Rattle.graph_file.specs.Facts.{called_by, depth_over, depths_in, earlier_names_in, entries_in, graph_names_in, is_job_line, node_names_in, points_in, unknowns_in, variables_in}
 use Rattle.graph_file.specs.Line.{texts_in}
 
 -- rows follow the line of a sparse node
@@ -123,6 +123,19 @@ lists_in (Product parts) = parts
 lists_in (Matmul left right rows mid cols) = left ∷ right ∷ []
 lists_in (Dense from rows unknowns want) = from ∷ []
 lists_in (Sparse from unknowns want) = from ∷ []
+lists_in (Call graph parts) = parts
+lists_in (Memo graph parts) = parts
+lists_in (Map graph parts) = parts
+
+-- none of these graphs has the name
+abbrev pub is_not_among : List (List ℕ) → Option (List ℕ) → Bool
+is_not_among graphs None = false
+is_not_among graphs (Some graph) = not (list_any (λ other. bytes_eq other graph) graphs)
+
+-- the graph that a node calls isn't an earlier one
+abbrev pub is_unknown_graph : List Line → Line → Bool
+is_unknown_graph earlier (Node name statement) = is_not_among (earlier_names_in earlier) (called_by statement)
+is_unknown_graph earlier _ = false
 
 -- a list is neither `input` nor an earlier node's
 abbrev pub is_unknown_node : List Line → Line → Bool
@@ -178,6 +191,10 @@ is_in_range (Dense from rows unknowns want) = is_system rows unknowns want
 is_in_range (Sparse from unknowns want) = is_sparse unknowns want
 is_in_range _ = true
 
+-- the calls of graphs go at most 8 deep with this node
+abbrev pub is_shallow : List Line → Statement → Bool
+is_shallow earlier statement = nat_le (depth_over (earlier_names_in earlier) (depths_in earlier) (called_by statement)) 8
+
 -- a name that a line gives has at most 32 bytes
 abbrev pub is_short : List ℕ → Bool
 is_short name = nat_le (length name) 32
@@ -219,12 +236,12 @@ are_bounds earlier outputs num den = are_numbers outputs num den && has_few (len
 abbrev pub is_coeff : ℕ → ℕ → Bool
 is_coeff num den = nat_le 1 num && nat_le 1 den && nat_lt (2 * (num * den)) both
 
--- a name is too long, a number out of its range, or there are more than 64 graphs, 8 variables, 4096 nodes, 65536
+-- a name is too long, a number out of its range, calls go deeper than 8, or there are more than 64 graphs, 8 variables, 4096 nodes, 65536
 -- entries of a sparse node, 65536 points, 1024 monomials of one output's bounds or 65536 points of the grid
 abbrev pub is_limit : List Line → Line → Bool
 is_limit earlier (Graph name) = not (is_short name && nat_lt (length (graph_names_in earlier)) 64)
 is_limit earlier (Input names) = not (list_all is_short names && nat_le (length names) 8)
-is_limit earlier (Node name statement) = not (is_short name && nat_lt (length (node_names_in earlier)) 4096 && is_in_range statement)
+is_limit earlier (Node name statement) = not (is_short name && nat_lt (length (node_names_in earlier)) 4096 && is_in_range statement && is_shallow earlier statement)
 is_limit earlier (Row columns) = not (are_columns (unknowns_in earlier) columns && nat_le (entries_in earlier + length columns) 65536)
 is_limit earlier (Point entries) = not (nat_lt (length (points_in earlier)) 65536)
 is_limit earlier (Bounds outputs num den) = not (are_bounds earlier outputs num den)
@@ -237,6 +254,7 @@ fault_after earlier line =
     if is_syntax earlier line then Some Syntax else
     if is_version line then Some Version else
     if is_repeated earlier line then Some Repeated else
+    if is_unknown_graph earlier line then Some UnknownGraph else
     if is_unknown_node earlier line then Some UnknownNode else
     if is_residue line then Some Residue else
     if is_limit earlier line then Some Limit else None

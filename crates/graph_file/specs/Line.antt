@@ -7,7 +7,7 @@ use Rattle.graph_file.specs.declared.line.Degrees.{Degrees}
 use Rattle.graph_file.specs.declared.line.Line.{Line}
 use Rattle.graph_file.specs.declared.line.Line.TheVariants.{Flow, Graph, Input, Node, Row, Output, Point, Bounds, Coeff}
 use Rattle.graph_file.specs.declared.line.Statement.{Statement}
-use Rattle.graph_file.specs.declared.line.Statement.TheVariants.{Eval, Take, Slice, Chain, Sum, Product, Matmul, Dense, Sparse}
+use Rattle.graph_file.specs.declared.line.Statement.TheVariants.{Eval, Take, Slice, Chain, Sum, Product, Matmul, Dense, Sparse, Call, Memo, Map}
 use Rattle.graph_file.specs.declared.line.Which.{Which}
 use Rattle.graph_file.specs.declared.line.Which.TheVariants as which
 use Rattle.graph_file.specs.declared.line.Want.{Want}
@@ -193,6 +193,21 @@ abbrev pub sparse_node : List (List ℕ) → Option Statement
 sparse_node (from ∷ unknowns ∷ later) = sparse_from from (size_of unknowns) (want_of later)
 sparse_node _ = None
 
+-- `call GRAPH LIST ..`
+abbrev pub call_node : List (List ℕ) → Option Statement
+call_node (graph ∷ list ∷ lists) = Some (Call graph (list ∷ lists))
+call_node _ = None
+
+-- `memo GRAPH LIST ..`
+abbrev pub memo_node : List (List ℕ) → Option Statement
+memo_node (graph ∷ list ∷ lists) = Some (Memo graph (list ∷ lists))
+memo_node _ = None
+
+-- `map GRAPH LIST ..`
+abbrev pub map_node : List (List ℕ) → Option Statement
+map_node (graph ∷ list ∷ lists) = Some (Map graph (list ∷ lists))
+map_node _ = None
+
 -- what a `node` line says of its node, from the word for its kind on
 abbrev pub statement_of : List ℕ → List ℕ → List (List ℕ) → Option Statement
 statement_of line kind arguments =
@@ -204,7 +219,10 @@ statement_of line kind arguments =
     if bytes_eq kind (codes "product") then product_node arguments else
     if bytes_eq kind (codes "matmul") then matmul_node arguments else
     if bytes_eq kind (codes "dense") then dense_node arguments else
-    if bytes_eq kind (codes "sparse") then sparse_node arguments else None
+    if bytes_eq kind (codes "sparse") then sparse_node arguments else
+    if bytes_eq kind (codes "call") then call_node arguments else
+    if bytes_eq kind (codes "memo") then memo_node arguments else
+    if bytes_eq kind (codes "map") then map_node arguments else None
 
 -- `node NAME KIND ..`
 abbrev pub node_line : List ℕ → List (List ℕ) → Option Line

@@ -3,7 +3,7 @@ use Rattle.std.specs.Prelude.{ℕ}
 use Rattle.std.proofs.Props as below
 use Rattle.graph_file.specs.Sound.{IsEarlier, IsKind}
 use Rattle.graph_file.specs.declared.graph.NodeKind.{NodeKind}
-use Rattle.graph_file.specs.declared.graph.NodeKind.TheVariants.{Eval, Take, Slice, Chain, Sum, Product, Matmul, Dense, Sparse}
+use Rattle.graph_file.specs.declared.graph.NodeKind.TheVariants.{Eval, Take, Slice, Chain, Sum, Product, Matmul, Dense, Sparse, Call, Memo, Map}
 use Rattle.graph_file.specs.declared.graph.Source.{Source}
 use Rattle.graph_file.specs.declared.graph.Source.TheVariants as source
 
@@ -21,5 +21,8 @@ IsKind-prop variables number (Product parts) = Prim.hlevel (IsEarlier-prop, belo
 IsKind-prop variables number (Matmul left right rows mid cols) = Prim.hlevel (IsEarlier-prop, below.props)
 IsKind-prop variables number (Dense from rows unknowns want) = Prim.hlevel (IsEarlier-prop, below.props)
 IsKind-prop variables number (Sparse from unknowns want rows) = Prim.hlevel (IsEarlier-prop, below.props)
+IsKind-prop variables number (Call graph parts) = Prim.hlevel (IsEarlier-prop, below.props)
+IsKind-prop variables number (Memo graph parts) = Prim.hlevel (IsEarlier-prop, below.props)
+IsKind-prop variables number (Map graph parts) = Prim.hlevel (IsEarlier-prop, below.props)
 
 pub ruleset props = (IsKind-prop, below.props)

@@ -9,7 +9,7 @@ use Rattle.graph_file.specs.declared.graph.Graph.{Graph}
 use Rattle.graph_file.specs.declared.line.Line.{Line}
 use Rattle.graph_file.specs.declared.reader.Reader.{Reader}
 use Rattle.graph_file.specs.Bounding.{all_in, bounds_given, coeff_in, special_in, widest}
-use Rattle.graph_file.specs.Facts.{entries_in, graph_names_in, node_names_in, points_in, unknowns_in, variables_in}
+use Rattle.graph_file.specs.Facts.{depths_in, entries_in, graph_names_in, node_names_in, points_in, unknowns_in, variables_in}
 use Rattle.graph_file.specs.Faults.{IsBadLine, IsGoodLine, fault_after}
 use Rattle.graph_file.specs.Reader.{AreDistinct, IsSound, last_of}
 use Rattle.graph_file.specs.Formed.{IsFormed}
@@ -42,10 +42,16 @@ pub record AreAll (earlier : List Line) (graphs : List Graph) : Type 0 where
   pub counted : length graphs ≡ length (graph_names_in earlier)
   pub first : AreFirst earlier graphs
 
+-- the depths of calls of the graphs of these lines are these, each at most 8
+pub record AreDepths (earlier : List Line) (depths : List ℕ) : Type 0 where
+  pub are : depths ≡ depths_in earlier
+  pub low : (k : ℕ) (depth : ℕ) → slice_get depths k ≡ Some depth → depth ≤ 8
+
 -- the reader keeps what these lines say, the last of which stands first, and that fits together
 pub record IsRead (earlier : List Line) (reader : Reader) : Type 0 where
   pub last_is : reader.stood ≡ last_of earlier
   pub graphs_are : AreBehind earlier reader.graph_names.names reader.graphs
+  pub depths_are : AreDepths earlier reader.depths.items
   pub name_is : reader.name ≡ graph_name_in earlier
   pub variables_are : reader.variables ≡ Listed (variables_in earlier)
   pub names_are : reader.table.names ≡ node_names_in earlier

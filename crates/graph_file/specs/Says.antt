@@ -17,7 +17,7 @@ use Rattle.graph_file.specs.declared.job.Need.{Need}
 use Rattle.graph_file.specs.declared.line.Line.{Line}
 use Rattle.graph_file.specs.declared.line.Line.TheVariants as line
 use Rattle.graph_file.specs.declared.line.Statement.{Statement}
-use Rattle.graph_file.specs.declared.line.Statement.TheVariants.{Eval, Take, Slice, Chain, Sum, Product, Matmul, Dense, Sparse}
+use Rattle.graph_file.specs.declared.line.Statement.TheVariants.{Eval, Take, Slice, Chain, Sum, Product, Matmul, Dense, Sparse, Call, Memo, Map}
 use Rattle.graph_file.specs.declared.line.Want.{Want}
 use Rattle.graph_file.specs.declared.line.Want.TheVariants.{Every, Numbers}
 use Rattle.poly_maps.specs.declared.bound.Bounds.{Bounds}
@@ -26,7 +26,7 @@ use Rattle.ray_grid.specs.declared.grid.Grid.{Grid}
 use Rattle.graph_file.specs.declared.job.Special.{Special}
 use Rattle.graph_file.specs.Bounded.{main_variables}
 use Rattle.graph_file.specs.Bounding.{all_in, bounds_among, bounds_given, coeff_in, coeff_or, grid_with, no_bounds, special_in, widest}
-use Rattle.graph_file.specs.Facts.{graph_names_in, node_names_in, points_in, variables_in}
+use Rattle.graph_file.specs.Facts.{earlier_names_in, graph_named, graph_names_in, node_names_in, points_in, variables_in}
 use Rattle.graph_file.specs.Faults.{names_in}
 use Rattle.graph_file.specs.File.{said}
 use Rattle.graph_file.specs.Line.{all_of, texts_in}
@@ -79,22 +79,39 @@ dense_of nodes from rows unknowns want = option_map (λ from. node.Dense from ro
 abbrev pub sparse_of : List (List ℕ) → List ℕ → ℕ → Want → Option NodeKind
 sparse_of nodes from unknowns want = option_map (λ from. node.Sparse from unknowns (wanted unknowns want) []) (source_named nodes from)
 
-abbrev pub kind_of : List (List ℕ) → List Expr → Statement → Option NodeKind
-kind_of nodes exprs (Eval from texts) = eval_of nodes from exprs
-kind_of nodes exprs (Take parts) = take_of nodes parts
-kind_of nodes exprs (Slice from first last) = slice_of nodes from first last
-kind_of nodes exprs (Chain lists) = chain_of nodes lists
-kind_of nodes exprs (Sum lists) = sum_of nodes lists
-kind_of nodes exprs (Product lists) = product_of nodes lists
-kind_of nodes exprs (Matmul left right rows mid cols) = matmul_of nodes left right rows mid cols
-kind_of nodes exprs (Dense from rows unknowns want) = dense_of nodes from rows unknowns want
-kind_of nodes exprs (Sparse from unknowns want) = sparse_of nodes from unknowns want
+-- the number of the graph with this name, and the lists
+abbrev pub call_parts : List (List ℕ) → List (List ℕ) → List ℕ → List (List ℕ) → Option (ℕ × List Source)
+call_parts graphs nodes graph lists = option_and_then (λ number. option_map (λ parts. (number, parts)) (all_of (map (source_named nodes) lists))) (graph_named graphs graph)
+
+abbrev pub call_of : List (List ℕ) → List (List ℕ) → List ℕ → List (List ℕ) → Option NodeKind
+call_of graphs nodes graph lists = option_map (λ call. node.Call call.0 call.1) (call_parts graphs nodes graph lists)
+
+abbrev pub memo_of : List (List ℕ) → List (List ℕ) → List ℕ → List (List ℕ) → Option NodeKind
+memo_of graphs nodes graph lists = option_map (λ call. node.Memo call.0 call.1) (call_parts graphs nodes graph lists)
+
+abbrev pub map_of : List (List ℕ) → List (List ℕ) → List ℕ → List (List ℕ) → Option NodeKind
+map_of graphs nodes graph lists = option_map (λ call. node.Map call.0 call.1) (call_parts graphs nodes graph lists)
+
+-- what a node computes by its line, where the earlier graphs and the earlier nodes have these names and its expressions these trees
+abbrev pub kind_of : List (List ℕ) → List (List ℕ) → List Expr → Statement → Option NodeKind
+kind_of graphs nodes exprs (Eval from texts) = eval_of nodes from exprs
+kind_of graphs nodes exprs (Take parts) = take_of nodes parts
+kind_of graphs nodes exprs (Slice from first last) = slice_of nodes from first last
+kind_of graphs nodes exprs (Chain lists) = chain_of nodes lists
+kind_of graphs nodes exprs (Sum lists) = sum_of nodes lists
+kind_of graphs nodes exprs (Product lists) = product_of nodes lists
+kind_of graphs nodes exprs (Matmul left right rows mid cols) = matmul_of nodes left right rows mid cols
+kind_of graphs nodes exprs (Dense from rows unknowns want) = dense_of nodes from rows unknowns want
+kind_of graphs nodes exprs (Sparse from unknowns want) = sparse_of nodes from unknowns want
+kind_of graphs nodes exprs (Call graph lists) = call_of graphs nodes graph lists
+kind_of graphs nodes exprs (Memo graph lists) = memo_of graphs nodes graph lists
+kind_of graphs nodes exprs (Map graph lists) = map_of graphs nodes graph lists
 
 -- what the node of a line computes, where the lines before it are these
 pub record IsKindOf (earlier : List Line) (name : List ℕ) (statement : Statement) (kind : NodeKind) : Type 0 where
   pub exprs : List Expr
   pub trees : AreTrees (names_in (Listed (variables_in earlier)) (line.Node name statement)) (texts_in (line.Node name statement)) exprs
-  pub kind_is : kind_of (node_names_in earlier) exprs statement ≡ Some kind
+  pub kind_is : kind_of (earlier_names_in earlier) (node_names_in earlier) exprs statement ≡ Some kind
 
 -- a sparse node with one more row
 abbrev pub with_row : SparseRow → NodeKind → NodeKind

@@ -1,5 +1,5 @@
 -- What holds of the graphs and points of every file that is read.
-use Rattle.std.specs.Prelude.{◌≡◌, ◌≢◌, ℕ, ◌<◌, ◌≤◌, ◌-◌, ◌*◌, List, length, Some, IsTrue, codes, slice_get}
+use Rattle.std.specs.Prelude.{◌≡◌, ◌≢◌, ℕ, ◌<◌, ◌≤◌, ◌-◌, ◌*◌, List, length, Option, Some, None, IsTrue, codes, slice_get}
 use Rattle.ratfun_text.specs.Bytes.{is_name}
 use Rattle.ratfun_text.specs.Value.{greatest}
 use Rattle.ratfun_text.specs.declared.expr.Expr.{Expr}
@@ -10,7 +10,7 @@ use Rattle.graph_file.specs.Needed.{IsNeeded}
 use Rattle.graph_file.specs.declared.graph.Graph.{Graph}
 use Rattle.graph_file.specs.declared.graph.Node.{Node}
 use Rattle.graph_file.specs.declared.graph.NodeKind.{NodeKind}
-use Rattle.graph_file.specs.declared.graph.NodeKind.TheVariants.{Eval, Take, Slice, Chain, Sum, Product, Matmul, Dense, Sparse}
+use Rattle.graph_file.specs.declared.graph.NodeKind.TheVariants.{Eval, Take, Slice, Chain, Sum, Product, Matmul, Dense, Sparse, Call, Memo, Map}
 use Rattle.graph_file.specs.declared.graph.Source.{Source}
 use Rattle.graph_file.specs.declared.graph.Source.TheVariants as source
 
@@ -106,6 +106,20 @@ IsKind variables number (Product parts) = AreLists number parts
 IsKind variables number (Matmul left right rows mid cols) = IsMatmul number left right rows mid cols
 IsKind variables number (Dense from rows unknowns want) = IsDense number from rows unknowns want
 IsKind variables number (Sparse from unknowns want rows) = IsSparse number from unknowns want rows
+IsKind variables number (Call graph parts) = AreLists number parts
+IsKind variables number (Memo graph parts) = AreLists number parts
+IsKind variables number (Map graph parts) = AreLists number parts
+
+-- the number, counted from 0, of the graph that a node calls
+abbrev pub called_graph : NodeKind → Option ℕ
+called_graph (Call graph parts) = Some graph
+called_graph (Memo graph parts) = Some graph
+called_graph (Map graph parts) = Some graph
+called_graph _ = None
+
+-- the graphs that a graph's nodes call stand before the one with this number, counted from 0
+abbrev pub CallsEarlier : ℕ → Graph → Type 0
+CallsEarlier number graph = (k : ℕ) (node : Node) (called : ℕ) → slice_get graph.nodes k ≡ Some node → called_graph node.kind ≡ Some called → called < number
 
 -- the node with this number, counted from 0, has a name of at most 32 bytes that isn't `input`, and is sound in a graph
 -- of this many variables
@@ -134,12 +148,13 @@ pub record IsGraph (graph : Graph) : Type 0 where
   pub marks : (k : ℕ) (node : Node) → slice_get graph.nodes k ≡ Some node → IsMarked graph k node
   pub output : (k : ℕ) → graph.output ≡ source.Node k → k < length graph.nodes
 
--- there are 1 to 64 graphs with distinct names and at most 65536 points, each graph is sound, and each point has an entry
--- for each variable of the last graph
+-- there are 1 to 64 graphs with distinct names and at most 65536 points, each graph is sound and calls earlier ones alone,
+-- and each point has an entry for each variable of the last graph
 pub record IsJob (graphs : List Graph) (points : List (List ℕ)) : Type 0 where
   pub main : 1 ≤ length graphs
   pub bounded : length graphs ≤ 64
   pub few_points : length points ≤ 65536
   pub graph : (k : ℕ) (graph : Graph) → slice_get graphs k ≡ Some graph → IsGraph graph
+  pub calls : (k : ℕ) (graph : Graph) → slice_get graphs k ≡ Some graph → CallsEarlier k graph
   pub distinct : (i j : ℕ) (first second : Graph) → slice_get graphs i ≡ Some first → slice_get graphs j ≡ Some second → first.name ≡ second.name → i ≡ j
   pub entries : (k : ℕ) (point : List ℕ) (graph : Graph) → slice_get points k ≡ Some point → slice_get graphs (length graphs - 1) ≡ Some graph → length point ≡ length graph.inputs

@@ -16,6 +16,9 @@ pub enum FileKind {
     /// coefficients are given again.
     #[error("repeated")]
     Repeated,
+    /// No earlier graph has the name.
+    #[error("unknown graph")]
+    UnknownGraph,
     /// No earlier node of the graph has the name, which isn't `input` either.
     #[error("unknown node")]
     UnknownNode,

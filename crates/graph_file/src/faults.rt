@@ -1,7 +1,8 @@
 //! What may be wrong with a line beside its expressions.
-ghost use Rattle.std.specs.Prelude.{◌≡◌, ◌+◌, ◌≤◌, List, [], map, length, nat_le, true, false, IfOk};
+ghost use Rattle.std.specs.Prelude.{◌≡◌, ◌+◌, ◌≤◌, List, [], map, length, nat_le, take, true, false, IfOk};
 ghost use Rattle.std.specs.List.{list_all};
 ghost use Rattle.ratfun_text.specs.Names.{names_of as variables_of};
+ghost use Rattle.graph_file.specs.Facts as facts;
 ghost use Rattle.graph_file.specs.Faults as spec;
 ghost use Rattle.graph_file.specs.Read.{IsRead, KeepsGood};
 ghost use Rattle.graph_file.specs.Reader.{is_ended, stands_behind};
@@ -9,6 +10,7 @@ ghost use Rattle.graph_file.specs.declared.line.Line.{Line as LineOf};
 ghost use Rattle.ray_grid.specs.Grid.{IsGrid};
 
 use crate::asked::{bounds_said, is_given, widened};
+use crate::depth::{depth_over, graph_named};
 use crate::error::FileKind;
 use crate::line::{Degrees, Last, Line, Statement, Want, Which};
 use crate::reader::Reader;
@@ -24,6 +26,9 @@ const NAME_BYTES: usize = 32;
 
 /// The most graphs of a file.
 const GRAPHS: usize = 64;
+
+/// The greatest depth of calls.
+const DEPTH: u32 = 8;
 
 /// The most variables of a graph.
 const VARIABLES: usize = 8;
@@ -187,6 +192,34 @@ fn are_lists_known(nodes: &Table, statement: &Statement) -> bool
         } => is_known(nodes, left.bytes()) && is_known(nodes, right.bytes()),
         Statement::Dense { from, .. } => is_known(nodes, from.bytes()),
         Statement::Sparse { from, .. } => is_known(nodes, from.bytes()),
+        Statement::Call { graph: _, parts } => are_known(nodes, parts.as_slice()),
+        Statement::Memo { graph: _, parts } => are_known(nodes, parts.as_slice()),
+        Statement::Map { graph: _, parts } => are_known(nodes, parts.as_slice()),
+    }
+}
+
+/// Whether a node calls another graph than one of the first of these, as many as `count`.
+fn is_not_among(graphs: &Table, count: usize, statement: &Statement) -> bool
+    requires { length graphs.now.names ≤ 64 }
+    ensures { result ≡ spec.is_not_among (take count graphs.now.names) (facts.called_by statement.now) }
+{
+    match statement {
+        Statement::Call { graph, parts: _ } => graph_named(graphs, count, graph.bytes()).is_none(),
+        Statement::Memo { graph, parts: _ } => graph_named(graphs, count, graph.bytes()).is_none(),
+        Statement::Map { graph, parts: _ } => graph_named(graphs, count, graph.bytes()).is_none(),
+        _ => false,
+    }
+}
+
+fn is_unknown_graph(reader: &Reader, line: &Line) -> bool
+    requires { KeepsGood reader.now }
+    ensures { (earlier : List LineOf) → IsRead earlier reader.now → result ≡ spec.is_unknown_graph earlier line.now }
+{
+    match line {
+        Line::Node(_, statement) => {
+            is_not_among(&reader.graph_names, reader.graphs.len(), statement)
+        }
+        _ => false,
     }
 }
 
@@ -315,6 +348,15 @@ fn is_in_range(statement: &Statement) -> bool
     }
 }
 
+/// Whether calls of graphs go at most 8 deep with this node.
+fn is_shallow(reader: &Reader, statement: &Statement) -> bool
+    requires { KeepsGood reader.now }
+    ensures { (earlier : List LineOf) → IsRead earlier reader.now → result ≡ spec.is_shallow earlier statement.now }
+{
+    let depths = reader.depths.as_slice();
+    depth_over(&reader.graph_names, reader.graphs.len(), depths, statement) <= DEPTH
+}
+
 fn is_short(name: &[u8]) -> bool
     ensures { result ≡ spec.is_short name.now }
 {
@@ -421,7 +463,8 @@ fn is_limit(reader: &Reader, line: &Line) -> bool
         Line::Input(names) => !(are_short(names.as_slice()) && names.len() <= VARIABLES),
         Line::Node(name, statement) => !(is_short(name.bytes())
             && reader.table.len() < NODES
-            && is_in_range(statement)),
+            && is_in_range(statement)
+            && is_shallow(reader, statement)),
         Line::Row(columns) => !(are_columns(columns.as_slice(), reader.unknowns)
             && is_room(reader.entries, columns.len())),
         Line::Point(_) => reader.asked.points.len() >= POINTS,
@@ -445,6 +488,9 @@ pub fn fault(reader: &Reader, line: &Line) -> Result<Option<FileKind>, AllocErro
     let is_repeated = is_repeated(reader, line)?;
     if is_repeated {
         return Ok(Some(FileKind::Repeated));
+    }
+    if is_unknown_graph(reader, line) {
+        return Ok(Some(FileKind::UnknownGraph));
     }
     if is_unknown_node(reader, line) {
         return Ok(Some(FileKind::UnknownNode));

@@ -67,6 +67,21 @@ pub enum NodeKind {
         want: Items<u32>,
         rows: Items<SparseRow>,
     },
+    /// What the output of an earlier graph of the file is on lists, one after the other. Graphs are counted from 0.
+    Call {
+        graph: u32,
+        parts: Items<Source>,
+    },
+    /// The same; the last list that was given, and what came of it, may be kept.
+    Memo {
+        graph: u32,
+        parts: Items<Source>,
+    },
+    /// What the output of an earlier graph of the file is on each list, one after the other.
+    Map {
+        graph: u32,
+        parts: Items<Source>,
+    },
 }
 
 /// A node of a graph.

@@ -1,9 +1,10 @@
 //! What a node computes, from what its line says.
-ghost use Rattle.std.specs.Prelude.{◌≡◌, ◌≤◌, length, map, IfOk};
+ghost use Rattle.std.specs.Prelude.{◌≡◌, ◌≤◌, length, map, take, IfOk};
 ghost use Rattle.std.specs.List.{range_with_len};
 ghost use Rattle.graph_file.specs.Line.{all_of};
 ghost use Rattle.graph_file.specs.Says as spec;
 
+use crate::depth::graph_named;
 use crate::graph::{NodeKind, Source};
 use crate::line::{Statement, Want};
 use crate::table::Table;
@@ -218,15 +219,95 @@ fn sparse_of(
     }))
 }
 
-/// What a node computes, where the earlier nodes have these names and its expressions these trees.
+/// The number of the graph with this name among the first of the graphs, and the lists.
+fn call_parts(
+    alloc: Global,
+    graphs: &Table,
+    count: usize,
+    nodes: &Table,
+    graph: &[u8],
+    lists: &[Name],
+) -> Result<Option<(u32, Items<Source>)>, AllocError>
+    requires graphs { length graphs.now.names ≤ 64 }
+    requires nodes { length nodes.now.names ≤ 4096 }
+    ensures { IfOk result (λ call. call ≡ spec.call_parts (take count graphs.now.names) nodes.now.names graph.now lists.now) }
+{
+    let Some(number) = graph_named(graphs, count, graph) else {
+        return Ok(None);
+    };
+    let Some(parts) = sources_named(alloc, nodes, lists)? else {
+        return Ok(None);
+    };
+    Ok(Some((number, parts)))
+}
+
+fn call_of(
+    alloc: Global,
+    graphs: &Table,
+    count: usize,
+    nodes: &Table,
+    graph: &[u8],
+    lists: &[Name],
+) -> Result<Option<NodeKind>, AllocError>
+    requires graphs { length graphs.now.names ≤ 64 }
+    requires nodes { length nodes.now.names ≤ 4096 }
+    ensures { IfOk result (λ kind. kind ≡ spec.call_of (take count graphs.now.names) nodes.now.names graph.now lists.now) }
+{
+    let Some((graph, parts)) = call_parts(alloc, graphs, count, nodes, graph, lists)? else {
+        return Ok(None);
+    };
+    Ok(Some(NodeKind::Call { graph, parts }))
+}
+
+fn memo_of(
+    alloc: Global,
+    graphs: &Table,
+    count: usize,
+    nodes: &Table,
+    graph: &[u8],
+    lists: &[Name],
+) -> Result<Option<NodeKind>, AllocError>
+    requires graphs { length graphs.now.names ≤ 64 }
+    requires nodes { length nodes.now.names ≤ 4096 }
+    ensures { IfOk result (λ kind. kind ≡ spec.memo_of (take count graphs.now.names) nodes.now.names graph.now lists.now) }
+{
+    let Some((graph, parts)) = call_parts(alloc, graphs, count, nodes, graph, lists)? else {
+        return Ok(None);
+    };
+    Ok(Some(NodeKind::Memo { graph, parts }))
+}
+
+fn map_of(
+    alloc: Global,
+    graphs: &Table,
+    count: usize,
+    nodes: &Table,
+    graph: &[u8],
+    lists: &[Name],
+) -> Result<Option<NodeKind>, AllocError>
+    requires graphs { length graphs.now.names ≤ 64 }
+    requires nodes { length nodes.now.names ≤ 4096 }
+    ensures { IfOk result (λ kind. kind ≡ spec.map_of (take count graphs.now.names) nodes.now.names graph.now lists.now) }
+{
+    let Some((graph, parts)) = call_parts(alloc, graphs, count, nodes, graph, lists)? else {
+        return Ok(None);
+    };
+    Ok(Some(NodeKind::Map { graph, parts }))
+}
+
+/// What a node computes, where the earlier graphs, which are the first `count` of these, and the earlier nodes have these
+/// names and its expressions these trees.
 pub fn kind_of(
     alloc: Global,
+    graphs: &Table,
+    count: usize,
     nodes: &Table,
     exprs: Items<Expr>,
     statement: &Statement,
 ) -> Result<Option<NodeKind>, AllocError>
-    requires { length nodes.now.names ≤ 4096 }
-    ensures { IfOk result (λ kind. kind ≡ spec.kind_of nodes.now.names exprs statement.now) }
+    requires graphs { length graphs.now.names ≤ 64 }
+    requires nodes { length nodes.now.names ≤ 4096 }
+    ensures { IfOk result (λ kind. kind ≡ spec.kind_of (take count graphs.now.names) nodes.now.names exprs statement.now) }
 {
     match statement {
         Statement::Eval { from, texts: _ } => Ok(eval_of(nodes, from.bytes(), exprs)),
@@ -253,5 +334,29 @@ pub fn kind_of(
             unknowns,
             want,
         } => sparse_of(alloc, nodes, from.bytes(), *unknowns, want),
+        Statement::Call { graph, parts } => call_of(
+            alloc,
+            graphs,
+            count,
+            nodes,
+            graph.bytes(),
+            parts.as_slice(),
+        ),
+        Statement::Memo { graph, parts } => memo_of(
+            alloc,
+            graphs,
+            count,
+            nodes,
+            graph.bytes(),
+            parts.as_slice(),
+        ),
+        Statement::Map { graph, parts } => map_of(
+            alloc,
+            graphs,
+            count,
+            nodes,
+            graph.bytes(),
+            parts.as_slice(),
+        ),
     }
 }

@@ -3,6 +3,7 @@
 
 mod asked;
 mod bounds;
+mod depth;
 mod error;
 mod exprs;
 mod faults;

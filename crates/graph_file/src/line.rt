@@ -41,7 +41,7 @@ pub struct Degrees {
     pub each: Items<u32>,
 }
 
-/// What a `node` line says of its node. Lists are given by their names.
+/// What a `node` line says of its node. Lists and graphs are given by their names.
 #[derive(Drop)]
 pub enum Statement {
     /// `eval LIST = EXPR ; ..`
@@ -91,6 +91,21 @@ pub enum Statement {
         from: Name,
         unknowns: u32,
         want: Want,
+    },
+    /// `call GRAPH LIST ..`
+    Call {
+        graph: Name,
+        parts: Items<Name>,
+    },
+    /// `memo GRAPH LIST ..`
+    Memo {
+        graph: Name,
+        parts: Items<Name>,
+    },
+    /// `map GRAPH LIST ..`
+    Map {
+        graph: Name,
+        parts: Items<Name>,
     },
 }
 

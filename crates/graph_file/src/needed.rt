@@ -62,6 +62,9 @@ pub fn sources_of(alloc: Global, kind: &NodeKind) -> Result<Items<Source>, Alloc
         } => two_sources(alloc, *left, *right),
         NodeKind::Dense { from, .. } => one_source(alloc, *from),
         NodeKind::Sparse { from, .. } => one_source(alloc, *from),
+        NodeKind::Call { graph: _, parts } => Items::from_slice(alloc, parts.as_slice()),
+        NodeKind::Memo { graph: _, parts } => Items::from_slice(alloc, parts.as_slice()),
+        NodeKind::Map { graph: _, parts } => Items::from_slice(alloc, parts.as_slice()),
     }
 }
 

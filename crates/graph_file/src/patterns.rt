@@ -399,6 +399,48 @@ fn sparse_node(alloc: Global, words: &[&[u8]]) -> Result<Option<Statement>, Allo
     }))
 }
 
+fn call_node(alloc: Global, words: &[&[u8]]) -> Result<Option<Statement>, AllocError>
+    ensures { IfOk result (λ node. node ≡ spec.call_node (map (λ word. word.now) words.now)) }
+{
+    let [graph, lists @ ..] = words else {
+        return Ok(None);
+    };
+    let [_, ..] = lists else {
+        return Ok(None);
+    };
+    let graph = Name::of(alloc, graph)?;
+    let parts = copies(alloc, lists)?;
+    Ok(Some(Statement::Call { graph, parts }))
+}
+
+fn memo_node(alloc: Global, words: &[&[u8]]) -> Result<Option<Statement>, AllocError>
+    ensures { IfOk result (λ node. node ≡ spec.memo_node (map (λ word. word.now) words.now)) }
+{
+    let [graph, lists @ ..] = words else {
+        return Ok(None);
+    };
+    let [_, ..] = lists else {
+        return Ok(None);
+    };
+    let graph = Name::of(alloc, graph)?;
+    let parts = copies(alloc, lists)?;
+    Ok(Some(Statement::Memo { graph, parts }))
+}
+
+fn map_node(alloc: Global, words: &[&[u8]]) -> Result<Option<Statement>, AllocError>
+    ensures { IfOk result (λ node. node ≡ spec.map_node (map (λ word. word.now) words.now)) }
+{
+    let [graph, lists @ ..] = words else {
+        return Ok(None);
+    };
+    let [_, ..] = lists else {
+        return Ok(None);
+    };
+    let graph = Name::of(alloc, graph)?;
+    let parts = copies(alloc, lists)?;
+    Ok(Some(Statement::Map { graph, parts }))
+}
+
 fn statement_of(
     alloc: Global,
     line: &[u8],
@@ -433,6 +475,15 @@ fn statement_of(
     }
     if kind == b"sparse".as_slice() {
         return sparse_node(alloc, words);
+    }
+    if kind == b"call".as_slice() {
+        return call_node(alloc, words);
+    }
+    if kind == b"memo".as_slice() {
+        return memo_node(alloc, words);
+    }
+    if kind == b"map".as_slice() {
+        return map_node(alloc, words);
     }
     Ok(None)
 }

@@ -13,6 +13,7 @@ ghost use Rattle.graph_file.specs.Reader.{IsOpen, has_name, is_ended, kind_stood
 ghost use Rattle.graph_file.specs.Says.{AreTrees, with_row as kind_with_row};
 
 use crate::asked::{Asked, bounds_said, nothing};
+use crate::depth::{depth_over, raise_last};
 use crate::error::FileKind;
 use crate::exprs::line_expressions;
 use crate::faults::{count, fault};
@@ -71,6 +72,8 @@ pub struct Reader {
     pub graphs: Items<Graph>,
     /// The names of all graphs.
     pub graph_names: Table,
+    /// How deep calls go from each graph, the last one included.
+    pub depths: Vec<u32>,
     /// The last graph's name.
     pub name: Option<Name>,
     /// Its variables.
@@ -97,6 +100,7 @@ impl Reader {
             stood: Last::Start,
             graphs: Items::new(alloc),
             graph_names: Table::new(alloc),
+            depths: Vec::new(alloc),
             name: None,
             variables: Names::Listed(Items::new(alloc)),
             table: Table::new(alloc),
@@ -122,6 +126,7 @@ impl Reader {
         requires whole { has_name self.old.stood ≡ true → is_ended self.old.stood ≡ true }
         ensures graphs { OnOk result ((earlier : List LineOf) → IsRead earlier self.old → AreAll earlier self.new.graphs) }
         ensures names { OnOk result (self.new.graph_names ≡ self.old.graph_names) }
+        ensures depths { OnOk result (self.new.depths ≡ self.old.depths) }
         ensures asked { OnOk result (self.new.asked ≡ self.old.asked) }
     {
         let name = self.name.take();
@@ -148,6 +153,7 @@ impl Reader {
         let before = replace(&mut self.graph_names, Table::new(self.alloc));
         let graph_names = before.with(self.alloc, name.bytes())?;
         self.graph_names = graph_names;
+        self.depths.push(1)?;
         self.stood = Last::Graph;
         self.name = Some(name);
         self.variables = Names::Listed(Items::new(self.alloc));
@@ -182,8 +188,18 @@ impl Reader {
         requires arguments { All (λ expr. greatest expr ≤ last_argument (names_for self.old.variables statement.now)) exprs }
         ensures { OnOk result ((earlier : List LineOf) → IsRead earlier self.old → IsRead (line.Node name statement.now ∷ earlier) self.new) }
     {
-        let kind = kind_of(self.alloc, &self.table, exprs, statement)?;
+        let count = self.graphs.len();
+        let kind = kind_of(
+            self.alloc,
+            &self.graph_names,
+            count,
+            &self.table,
+            exprs,
+            statement,
+        )?;
         let Some(kind) = kind else { unreachable!() };
+        let depth = depth_over(&self.graph_names, count, self.depths.as_slice(), statement);
+        raise_last(&mut self.depths, depth)?;
         self.stood = stood_after(&kind);
         self.unknowns = unknowns_of(&kind);
         self.entries = 0;

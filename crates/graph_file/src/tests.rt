@@ -291,6 +291,9 @@ fn lines_out_of_form_are_told(rt: HostRuntime) {
             6,
         ),
         (b"flow 1\ngraph main\ninput x\ngraph next\n", 4),
+        (b"flow 1\ngraph main\ninput x\nnode a call main\n", 4),
+        (b"flow 1\ngraph main\ninput x\nnode a memo\n", 4),
+        (b"flow 1\ngraph main\ninput x\nnode a map main\n", 4),
         (
             b"flow 1\ngraph main\ninput x\nnode a chain input\ngraph next\n",
             5,
@@ -467,6 +470,31 @@ fn the_first_kind_is_told_at_its_line(rt: HostRuntime) {
             FileKind::Limit,
         ),
         (
+            b"flow 1\ngraph main\ninput x\nnode a call main b\n",
+            4,
+            FileKind::UnknownGraph,
+        ),
+        (
+            b"flow 1\ngraph main\ninput x\nnode a memo 7 b\n",
+            4,
+            FileKind::UnknownGraph,
+        ),
+        (
+            b"flow 1\ngraph one\ninput x\noutput input\ngraph two\ninput x\nnode a map two input\n",
+            7,
+            FileKind::UnknownGraph,
+        ),
+        (
+            b"flow 1\ngraph one\ninput x\noutput input\ngraph two\ninput x\nnode a map one b\n",
+            7,
+            FileKind::UnknownNode,
+        ),
+        (
+            b"flow 1\ngraph main\ninput x\nnode a sum input\nnode a call main b\n",
+            5,
+            FileKind::Repeated,
+        ),
+        (
             b"flow 1\ngraph main\ninput x\nnode r sparse b 4097\n",
             4,
             FileKind::UnknownNode,
@@ -574,6 +602,74 @@ fn graphs_are_read_up_to_their_limit(rt: HostRuntime) -> Result<(), Fail> {
     assert!(rt; is_refused(&rt, rt.alloc(), bytes.as_slice(), 194, FileKind::Limit));
     again.extend_from_slice(b"graph g0\n")?;
     assert!(rt; is_refused(&rt, rt.alloc(), again.as_slice(), 194, FileKind::Repeated));
+    Ok(())
+}
+
+#[test]
+fn calls_are_read_with_their_graphs(rt: HostRuntime) -> Result<(), Fail> {
+    let bytes =
+        b"flow 1\ngraph one\ninput x\noutput input\ngraph input\ninput x\nnode a memo one input\noutput a\ngraph main\ninput x y\nnode a call input input input\nnode b map one a input\nnode c memo one b\noutput b\n";
+    let job = read(&rt, rt.alloc(), bytes)?;
+    assert_eq!(rt; job.graphs.len(), 3);
+    let graph = job.graphs.get(2).expect(&rt, "the main graph");
+    let node = graph.nodes.get(0).expect(&rt, "a call");
+    let NodeKind::Call {
+        graph: called,
+        parts,
+    } = &node.kind
+    else {
+        return Err(Fail::from("another kind"));
+    };
+    assert_eq!(rt; *called, 1);
+    assert_eq!(rt; parts.as_slice(), [Source::Input, Source::Input].as_slice());
+    assert!(rt; node.needed);
+    let node = graph.nodes.get(1).expect(&rt, "a map");
+    let NodeKind::Map {
+        graph: called,
+        parts,
+    } = &node.kind
+    else {
+        return Err(Fail::from("another kind"));
+    };
+    assert_eq!(rt; *called, 0);
+    assert_eq!(rt;
+        parts.as_slice(),
+        [Source::Node(0), Source::Input].as_slice()
+    );
+    assert!(rt; node.needed);
+    let node = graph.nodes.get(2).expect(&rt, "a memo that isn't needed");
+    let NodeKind::Memo {
+        graph: called,
+        parts,
+    } = &node.kind
+    else {
+        return Err(Fail::from("another kind"));
+    };
+    assert_eq!(rt; *called, 0);
+    assert_eq!(rt; parts.as_slice(), [Source::Node(1)].as_slice());
+    assert!(rt; !node.needed);
+    Ok(())
+}
+
+#[test]
+fn calls_are_read_up_to_their_depth(rt: HostRuntime) -> Result<(), Fail> {
+    let mut bytes = Vec::from_slice(rt.alloc(), b"flow 1\ngraph g1\ninput x\noutput input\n")?;
+    for turn in 1..8 {
+        let next = turn + 1;
+        let lines = format!(in rt.alloc();
+            "graph g{next}\ninput x\nnode c call g{turn} input\noutput input\n"
+        )?;
+        bytes.extend_from_slice(lines.as_bytes())?;
+    }
+    let job = read(&rt, rt.alloc(), bytes.as_slice())?;
+    assert_eq!(rt; job.graphs.len(), 8);
+    bytes.extend_from_slice(b"graph main\ninput x\nnode a call g7 input\n")?;
+    let mut deep = Vec::from_slice(rt.alloc(), bytes.as_slice())?;
+    bytes.extend_from_slice(b"output a\n")?;
+    let job = read(&rt, rt.alloc(), bytes.as_slice())?;
+    assert_eq!(rt; job.graphs.len(), 9);
+    deep.extend_from_slice(b"node b map g8 input\n")?;
+    assert!(rt; is_refused(&rt, rt.alloc(), deep.as_slice(), 36, FileKind::Limit));
     Ok(())
 }
 

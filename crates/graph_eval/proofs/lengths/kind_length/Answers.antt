@@ -11,7 +11,7 @@ named_lengths-requires c =
     All-same (IsEarlier (length c.args.earlier.now)) _ _ (c.as_slice.ensures ∙ c.in_ok-sources.ensures) (sources_sound c.args.inputs (length c.args.earlier.now) c.args.kind.now c.requires.sound)
 
 pub length_of-requires-clause-shape : goal.length_of-requires-clause-shape
-length_of-requires-clause-shape c = subst IsShape (sym c.in_ok-shape.ensures) (shape_sound c.args.inputs (length c.args.earlier.now) c.args.sizes.now c.args.set.now c.args.kind.now c.requires.sound c.requires.set)
+length_of-requires-clause-shape c = subst IsShape (sym c.in_ok-shape.ensures) (shape_sound c.args.inputs (length c.args.earlier.now) c.args.sizes.now c.args.set.now c.args.kind.now c.requires.sizes c.requires.sound c.requires.set)
 
 pub length_of-requires-clause-within : goal.length_of-requires-clause-within
 length_of-requires-clause-within c =

@@ -10,26 +10,26 @@ pub places_of-requires-clause-few_inputs : goal.places_of-requires-clause-few_in
 places_of-requires-clause-few_inputs c =
     let graph = c.index-graphs-number.result in
     let entry = c.index-learned-number.result in
-    let is = read_at c.args.graphs.now c.args.graphs.now c.loop-number.number graph refl c.loop-number-test.true c.index-graphs-number.is in
-    let entry_is = read_at c.args.learned.now c.args.learned.now c.loop-number.number entry refl (omega (arith, c.loop-number-test.true, c.requires.fits.many)) c.index-learned-number.is in
+    let is = read_at c.args.graphs.now c.args.graphs.now c.loop-number.number graph refl (omega (arith, c.loop-number-test.true, c.requires.within)) c.index-graphs-number.is in
+    let entry_is = read_at c.args.learned.now c.args.learned.now c.loop-number.number entry refl c.loop-number-test.true c.index-learned-number.is in
     omega (arith, c.len.ensures, (c.requires.sound.graph c.loop-number.number graph is).few)
 
 pub places_of-requires-clause-few : goal.places_of-requires-clause-few
 places_of-requires-clause-few c =
     let graph = c.index-graphs-number.result in
     let entry = c.index-learned-number.result in
-    let is = read_at c.args.graphs.now c.args.graphs.now c.loop-number.number graph refl c.loop-number-test.true c.index-graphs-number.is in
-    let entry_is = read_at c.args.learned.now c.args.learned.now c.loop-number.number entry refl (omega (arith, c.loop-number-test.true, c.requires.fits.many)) c.index-learned-number.is in
-    omega (arith, ap length (c.as_slice-lengths.ensures ∙ ap (λ (e : GraphLearned). e.lengths) (sym c.index-learned-number.is)), (c.requires.fits.each c.loop-number.number graph entry is entry_is).all, (c.requires.sound.graph c.loop-number.number graph is).bounded)
+    let is = read_at c.args.graphs.now c.args.graphs.now c.loop-number.number graph refl (omega (arith, c.loop-number-test.true, c.requires.within)) c.index-graphs-number.is in
+    let entry_is = read_at c.args.learned.now c.args.learned.now c.loop-number.number entry refl c.loop-number-test.true c.index-learned-number.is in
+    omega (arith, ap length (c.as_slice-lengths.ensures), (c.requires.fits.each c.loop-number.number graph entry is entry_is).all, (c.requires.sound.graph c.loop-number.number graph is).bounded)
 
 pub loop-number-preserved : goal.loop-number-preserved
 loop-number-preserved c =
     let graph = c.index-graphs-number.result in
     let entry = c.index-learned-number.result in
-    let is = read_at c.args.graphs.now c.args.graphs.now c.loop-number.number graph refl c.loop-number-test.true c.index-graphs-number.is in
-    let entry_is = read_at c.args.learned.now c.args.learned.now c.loop-number.number entry refl (omega (arith, c.loop-number-test.true, c.requires.fits.many)) c.index-learned-number.is in
+    let is = read_at c.args.graphs.now c.args.graphs.now c.loop-number.number graph refl (omega (arith, c.loop-number-test.true, c.requires.within)) c.index-graphs-number.is in
+    let entry_is = read_at c.args.learned.now c.args.learned.now c.loop-number.number entry refl c.loop-number-test.true c.index-learned-number.is in
     tables_more c.args.graphs.now c.args.learned.now c.loop-number.tables c.push.new.self c.loop-number.number graph entry c.in_ok-places_of.field-0 c.loop-number.invariant is entry_is
-    (c.in_ok-places_of.ensures ∙ ap (λ n. places_of n c.as_slice-lengths.result.now) c.len.ensures ∙ ap (places_of (length graph.inputs)) (c.as_slice-lengths.ensures ∙ ap (λ (e : GraphLearned). e.lengths) (sym c.index-learned-number.is))) c.in_ok-push.ensures.ok
+    (c.in_ok-places_of.ensures ∙ ap (λ n. places_of n c.as_slice-lengths.result.now) c.len.ensures ∙ ap (places_of (length graph.inputs)) (c.as_slice-lengths.ensures)) c.in_ok-push.ensures.ok
 
 pub returns : goal.returns
 returns c = tables_all c.args.graphs.now c.args.learned.now c.loop-number.tables c.loop-number.number c.loop-number.invariant (omega (arith, c.loop-number-test.false, c.loop-number.auto.number-end))

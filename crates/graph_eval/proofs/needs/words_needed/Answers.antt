@@ -1,16 +1,13 @@
--- The main graph is one of the job's, and what was learned last fits it.
-use Rattle.std.proofs.Common.{◌-◌, take, sym, ◌∙◌, ap}
-use Rattle.std.specs.Prelude.{slice_get}
-use Rattle.graph_eval.specs.GraphValue.{main_number}
-use Rattle.graph_eval.specs.Learned.{sizes_of}
+-- Each graph of a job is sound and calls earlier ones.
+use Rattle.std.proofs.Common.{◌≡◌, ◌≤◌, length, sym, ◌∙◌, ap, subst, arith}
+use Rattle.graph_file.specs.declared.graph.Graph.{Graph}
+use Rattle.graph_eval.specs.declared.learned.GraphLearned.{GraphLearned}
+use Rattle.graph_eval.specs.Learned.{AreGraphs, CallEarlier}
+use Rattle.graph_eval.specs.Needs.{kept_words}
 use Rattle.graph_eval.proofs.needs.words_needed.Goals as goal
 
-pub graph_words-requires-clause-sound : goal.graph_words-requires-clause-sound
-graph_words-requires-clause-sound c = c.args.job.now.sound.graph (main_number c.args.job.now.graphs) c.main_graph.result.now c.main_graph.ensures
+pub kept_words-requires-clause-sound : goal.kept_words-requires-clause-sound
+kept_words-requires-clause-sound c = subst AreGraphs (sym c.as_slice.ensures) (record { graph = c.args.job.now.sound.graph })
 
-pub graph_words-requires-clause-fits : goal.graph_words-requires-clause-fits
-graph_words-requires-clause-fits c = (
-  sizes_of c.args.job.now.graphs (take (main_number c.args.job.now.graphs) c.args.learned.now),
-  c.requires.each (main_number c.args.job.now.graphs) c.main_graph.result.now c.last.result.now c.main_graph.ensures
-      (ap (λ n. slice_get c.args.learned.now (n - 1)) (sym c.requires.many) ∙ c.last.ensures),
-)
+pub kept_words-requires-clause-earlier : goal.kept_words-requires-clause-earlier
+kept_words-requires-clause-earlier c = subst CallEarlier (sym c.as_slice.ensures) (record { graph = c.args.job.now.sound.calls })

@@ -21,6 +21,7 @@ returns c = λ earlier read.
     let kept : KeptBounds earlier c.args.outputs c.args.num.now c.args.den.now c.add_bounds.new.self = kept-bounds earlier c.args.self.now c.args.outputs c.args.num.now c.args.den.now c.count.result c.bounds_said-bounds.result c.add_bounds.new.self read c.in_ok-add_bounds.ensures c.bounds_said-bounds.ensures c.count.ensures fresh in
     record {
       last_is = refl;
+      depths_are = record { are = read.depths_are.are; low = read.depths_are.low };
       graphs_are = AreBehind-kept (line.Bounds c.args.outputs c.args.num.now c.args.den.now) earlier _ _ refl read.graphs_are;
       name_is = read.name_is;
       variables_are = read.variables_are;

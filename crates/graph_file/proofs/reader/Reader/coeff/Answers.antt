@@ -7,6 +7,7 @@ use Rattle.graph_file.proofs.reader.Reader.coeff.Goals as goal
 pub returns : goal.returns
 returns c = λ earlier read. record {
   last_is = refl;
+  depths_are = record { are = read.depths_are.are; low = read.depths_are.low };
   graphs_are = AreBehind-kept (line.Coeff c.args.coeff.num c.args.coeff.den) earlier _ _ refl read.graphs_are;
   name_is = read.name_is;
   variables_are = read.variables_are;

@@ -1,10 +1,12 @@
-use Rattle.std.proofs.Common.{◌≡◌, ◌∙◌, ◌++◌, ◌∷◌, [], ap, refl, bytes_eq}
+use Rattle.std.proofs.Common.{◌≡◌, ◌∙◌, ◌++◌, ◌∷◌, [], ap, refl, bytes_eq, Vec, ℕ}
 use Rattle.std.specs.List.{list_any}
 use Rattle.ratfun_text.specs.declared.names.Names.TheVariants.{Listed}
 use Rattle.graph_file.specs.declared.asked.Asked.{Asked}
 use Rattle.graph_file.specs.declared.line.Line.TheVariants as line
 use Rattle.graph_file.specs.declared.table.Table.{Table}
 use Rattle.graph_file.specs.Needed.{kinds_of}
+use Rattle.std.specs.Global.{Global}
+use Rattle.graph_file.proofs.DepthLemmas.{AreDepths-graph}
 use Rattle.graph_file.proofs.GraphLemmas.{AreBehind-graph}
 use Rattle.graph_file.proofs.Passes.{stands-graph}
 use Rattle.graph_file.proofs.StepLemmas.{graph-fits, graph-new, graph-room}
@@ -30,6 +32,7 @@ returns c =
     in
     λ earlier read. record {
       last_is = refl;
+      depths_are = AreDepths-graph c.args.name earlier c.args.self.now.depths.items c.push.new.self.items read.depths_are (c.in_ok-push.ensures.items ∙ ap (λ (v : Vec ℕ Global). v.items ++ 1 ∷ []) c.in_ok-finish_graph.ensures.depths);
       graphs_are = AreBehind-graph c.args.name earlier c.args.self.now.graph_names.names c.in_ok-graph_names.graph_names.names c.finish_graph.new.self.graphs c.args.self.now.graphs read.graphs_are (c.in_ok-finish_graph.ensures.graphs earlier read) (graph-new c.args.self.now c.args.name c.requires.passes) (graph-room c.args.self.now c.args.name c.requires.passes) more;
       name_is = refl;
       variables_are = none;

@@ -1,4 +1,4 @@
-use Rattle.std.proofs.Common.{◌≡◌, ◌∙◌, ◌++◌, ◌∷◌, [], Some, ap, refl, sym, bytes_eq}
+use Rattle.std.proofs.Common.{◌≡◌, ◌∙◌, ℕ, ◌++◌, ◌∷◌, [], ◌≤◌, List, Some, ap, refl, sym, subst, take, bytes_eq}
 use Rattle.std.specs.List.{list_any}
 use Rattle.std.proofs.lemmas.List.{map-append}
 use Rattle.graph_file.specs.declared.graph.Node.{Node as NodeOf}
@@ -7,13 +7,15 @@ use Rattle.graph_file.specs.Needed.{kinds_of}
 use Rattle.graph_file.specs.Says.{kind_of}
 use Rattle.graph_file.proofs.KindLemmas.{IsOf, kind_is_of}
 use Rattle.graph_file.proofs.StepLemmas.{node-fits}
-use Rattle.graph_file.proofs.TakeLemmas.{kind-said, node-new, node-there}
+use Rattle.graph_file.specs.Facts.{called_by, depth_over}
+use Rattle.graph_file.proofs.DepthLemmas.{AreDepths-node}
+use Rattle.graph_file.proofs.TakeLemmas.{earlier_graphs, graphs-kept, kind-said, node-new, node-shallow, node-there}
 use Rattle.graph_file.specs.declared.line.Line.TheVariants as line
 use Rattle.graph_file.proofs.GraphLemmas.{AreBehind-kept}
 use Rattle.graph_file.proofs.reader.Reader.node.Goals as goal
 
 pub unreachable-requires : goal.unreachable-requires
-unreachable-requires c = node-there c.args.self.now c.args.name c.args.statement.now c.requires.passes c.args.exprs (sym c.in_ok-kind.ensures ∙ c.in_default.is)
+unreachable-requires c = node-there c.args.self.now c.args.name c.args.statement.now c.requires.passes c.args.exprs (ap (λ n. kind_of (take n c.args.self.now.graph_names.names) c.args.self.now.table.names c.args.exprs c.args.statement.now) (sym c.len-count.ensures) ∙ sym c.in_ok-kind.ensures ∙ c.in_default.is)
 
 pub with-requires : goal.with-requires
 with-requires c =
@@ -23,15 +25,22 @@ with-requires c =
 
 pub returns : goal.returns
 returns c =
-    let is : kind_of c.args.self.now.table.names c.args.exprs c.args.statement.now ≡ Some c.in-Some.kind = sym c.in_ok-kind.ensures ∙ c.in-Some.is in
-    let of : IsOf c.args.statement.now c.in-Some.kind = kind_is_of c.args.self.now.table.names c.args.exprs c.args.statement.now c.in-Some.kind is in
+    let is : kind_of (earlier_graphs c.args.self.now) c.args.self.now.table.names c.args.exprs c.args.statement.now ≡ Some c.in-Some.kind = ap (λ n. kind_of (take n c.args.self.now.graph_names.names) c.args.self.now.table.names c.args.exprs c.args.statement.now) (sym c.len-count.ensures) ∙ sym c.in_ok-kind.ensures ∙ c.in-Some.is in
+    let of : IsOf c.args.statement.now c.in-Some.kind = kind_is_of (earlier_graphs c.args.self.now) c.args.self.now.table.names c.args.exprs c.args.statement.now c.in-Some.kind is in
     let names : c.in_ok-table.table.names ≡ c.args.self.now.table.names ++ c.args.name ∷ [] =
     c.in_ok-table.ensures
     ∙ ap (λ l. c.replace-before.result.names ++ l ∷ []) c.bytes.ensures
     ∙ ap (λ (t : Table). t.names ++ c.args.name ∷ []) c.replace-before.ensures.value
     in
+    let depth_is : c.depth_over-depth.result ≡ depth_over (earlier_graphs c.args.self.now) c.args.self.now.depths.items (called_by c.args.statement.now) =
+    c.depth_over-depth.ensures
+    ∙ ap (λ n. depth_over (take n c.args.self.now.graph_names.names) c.as_slice.result.now (called_by c.args.statement.now)) c.len-count.ensures
+    ∙ ap (λ ds. depth_over (earlier_graphs c.args.self.now) ds (called_by c.args.statement.now)) c.as_slice.ensures.value
+    in
+    let low : c.depth_over-depth.result ≤ 8 = subst (λ d. d ≤ 8) (sym depth_is) (node-shallow c.args.self.now c.args.name c.args.statement.now c.requires.passes) in
     λ earlier read. record {
       last_is = c.stood_after-self.ensures ∙ of.stood;
+      depths_are = AreDepths-node c.args.name c.args.statement.now earlier c.args.self.now.depths.items c.raise_last.new.depths.items c.depth_over-depth.result read.depths_are low (depth_is ∙ ap (λ (gs : List (List ℕ)). depth_over gs c.args.self.now.depths.items (called_by c.args.statement.now)) (graphs-kept earlier c.args.self.now read)) c.in_ok-raise_last.ensures;
       graphs_are = AreBehind-kept (line.Node c.args.name c.args.statement.now) earlier _ _ refl read.graphs_are;
       name_is = read.name_is;
       variables_are = read.variables_are;

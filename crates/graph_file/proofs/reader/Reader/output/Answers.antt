@@ -14,6 +14,7 @@ returns c =
     let is : source_named c.args.self.now.table.names c.args.list.now ≡ Some c.in-Some.output = sym c.source_named-output.ensures ∙ c.in-Some.is in
     λ earlier read. record {
       last_is = refl;
+      depths_are = record { are = read.depths_are.are; low = read.depths_are.low };
       graphs_are = AreBehind-kept (line.Output c.args.list.now) earlier _ _ refl read.graphs_are;
       name_is = read.name_is;
       variables_are = read.variables_are;

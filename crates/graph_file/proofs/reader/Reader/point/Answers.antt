@@ -9,6 +9,7 @@ returns c =
     let more : c.push.new.self ≡ c.args.self.now.asked.points ++ c.args.entries.now ∷ [] = c.in_ok-push.ensures.ok ∙ ap (λ p. c.args.self.now.asked.points ++ p ∷ []) c.of.ensures in
     λ earlier read. record {
       last_is = refl;
+      depths_are = record { are = read.depths_are.are; low = read.depths_are.low };
       graphs_are = AreBehind-kept (line.Point c.args.entries.now) earlier _ _ refl read.graphs_are;
       name_is = read.name_is;
       variables_are = read.variables_are;

@@ -20,6 +20,7 @@ returns c =
     let next : Node = record { name = node.name; kind = with_row (record { columns = c.args.columns }) node.kind; needed = node.needed } in
     λ earlier read. record {
       last_is = refl;
+      depths_are = record { are = read.depths_are.are; low = read.depths_are.low };
       graphs_are = AreBehind-kept (line.Row c.args.columns) earlier _ _ refl read.graphs_are;
       name_is = read.name_is;
       variables_are = read.variables_are;
