@@ -1,5 +1,5 @@
 -- Where memos keep their words, one behind the other.
-use Rattle.std.proofs.Common.{◌≡◌, ℕ, zero, suc, ◌+◌, ◌<◌, ◌≤◌, ◌⊎◌, List, [], ◌∷◌, ◌++◌, length, drop, Some, None, inl, inr, refl, sym, ◌∙◌, ap, subst, length-append, arith}
+use Rattle.std.proofs.Common.{◌≡◌, ℕ, zero, suc, ◌+◌, ◌<◌, ◌≤◌, ◌⊎◌, List, [], ◌∷◌, ◌++◌, length, drop, Some, None, inl, inr, refl, sym, ◌∙◌, ap, subst, length-append, add-one, arith}
 use Rattle.std.specs.Prelude.{slice_get}
 use Rattle.std.proofs.lemmas.Option.{get_or_from_slice_get, slice_get_within}
 use Rattle.std.proofs.Math.Seq.{drop-cons}
@@ -65,7 +65,8 @@ frames_more graphs learned frames more count end frame are at_is end_is fits joi
 -- a node's words and those of the nodes behind it
 pub nodes_drop : (graphs : List Graph) (learned : List GraphLearned) (nodes : List Node) (k : ℕ) (node : Node) → slice_get nodes k ≡ Some node → nodes_kept graphs learned (drop k nodes) ≡ node_kept graphs learned node + nodes_kept graphs learned (drop (k + 1) nodes)
 nodes_drop graphs learned nodes k node is =
-    ap (nodes_kept graphs learned) (drop-cons nodes k node (slice_get_within nodes k node is)) ∙ ap (λ n. node_kept graphs learned n + nodes_kept graphs learned (drop (k + 1) nodes)) (get_or_from_slice_get nodes k node node is)
+    ap (nodes_kept graphs learned) (drop-cons nodes k node (slice_get_within nodes k node is)) ∙ ap (λ n. node_kept graphs learned n + nodes_kept graphs learned (drop (suc k) nodes)) (get_or_from_slice_get nodes k node node is)
+    ∙ ap (λ n. node_kept graphs learned node + nodes_kept graphs learned (drop n nodes)) (sym (add-one k))
 
 pub nodes_past : (graphs : List Graph) (learned : List GraphLearned) (nodes : List Node) (k : ℕ) → length nodes ≤ k → nodes_kept graphs learned (drop k nodes) ≡ 0
 nodes_past graphs learned [] zero past = refl
@@ -76,7 +77,8 @@ nodes_past graphs learned (first ∷ nodes) (suc k) past = nodes_past graphs lea
 -- the same of graphs
 pub graphs_drop : (all : List Graph) (learned : List GraphLearned) (graphs : List Graph) (k : ℕ) (graph : Graph) → slice_get graphs k ≡ Some graph → graphs_kept all learned (drop k graphs) ≡ nodes_kept all learned graph.nodes + graphs_kept all learned (drop (k + 1) graphs)
 graphs_drop all learned graphs k graph is =
-    ap (graphs_kept all learned) (drop-cons graphs k graph (slice_get_within graphs k graph is)) ∙ ap (λ (g : Graph). nodes_kept all learned g.nodes + graphs_kept all learned (drop (k + 1) graphs)) (get_or_from_slice_get graphs k graph graph is)
+    ap (graphs_kept all learned) (drop-cons graphs k graph (slice_get_within graphs k graph is)) ∙ ap (λ (g : Graph). nodes_kept all learned g.nodes + graphs_kept all learned (drop (suc k) graphs)) (get_or_from_slice_get graphs k graph graph is)
+    ∙ ap (λ n. nodes_kept all learned graph.nodes + graphs_kept all learned (drop n graphs)) (sym (add-one k))
 
 pub graphs_past : (all : List Graph) (learned : List GraphLearned) (graphs : List Graph) (k : ℕ) → length graphs ≤ k → graphs_kept all learned (drop k graphs) ≡ 0
 graphs_past all learned [] zero past = refl

@@ -1,7 +1,8 @@
 -- What a memo keeps once it is written, and what the others keep.
-use Rattle.std.proofs.Common.{◌≡◌, ℕ, zero, suc, ◌+◌, ◌<◌, ◌≤◌, ◌⊎◌, inl, inr, List, [], ◌∷◌, All, length, set, Option, Some, refl, sym, ◌∙◌, ap, subst, length-set, arith}
+use Rattle.std.proofs.Common.{◌≡◌, ℕ, zero, suc, ◌+◌, ◌<◌, ◌≤◌, ◌⊎◌, inl, inr, List, [], ◌∷◌, All, length, replicate, set, Option, Some, None, refl, sym, ◌∙◌, ap, subst, length-set, arith}
 use Rattle.std.specs.Prelude.{slice_get, slice_range}
 use Rattle.std.proofs.lemmas.Bool.{cases_eq, cases_lt}
+use Rattle.std.proofs.lemmas.List.{length-replicate}
 use Rattle.std.proofs.lemmas.List.Elements.{All-same}
 use Rattle.prime_field.specs.declared.Modulus.{Modulus}
 use Rattle.prime_field.specs.Modulus.{value_of}
@@ -147,4 +148,17 @@ no_memos graphs sets kept = record {
   stand = record { within = λ i frame is. cc; apart = λ i j first second before is. cc };
   many = refl;
   each = λ i frame m is. cc;
+}
+
+-- memos that keep nothing yet
+none_at : (n i : ℕ) (m : Modulus) → slice_get (replicate n None) i ≡ Some (Some m) → ⊥
+none_at zero i m is = cc
+none_at (suc n) zero m is = let never : None ≡ Some m = cc in cc
+none_at (suc n) (suc i) m is = none_at n i m is
+
+pub none_kept : (graphs : List Graph) (sets : List (List (List ℕ))) (frames : List MemoFrame) (moduli : List (Option Modulus)) (kept : List ℕ) → FramesStand frames (length kept) → moduli ≡ replicate (length frames) None → AreKept graphs sets frames moduli kept
+none_kept graphs sets frames moduli kept stand none = record {
+  stand = stand;
+  many = ap length none ∙ length-replicate {A = Option Modulus} (length frames) None;
+  each = λ i frame m is by. absurd (none_at (length frames) i m (ap (λ (ms : List (Option Modulus)). slice_get ms i) (sym none) ∙ by));
 }

@@ -15,7 +15,8 @@ use Rattle.graph_eval.specs.declared.worker.Worker.{Worker}
 use Rattle.graph_eval.specs.Evaluated.{FitsOutcome, HasInputs, IsNeededAt}
 use Rattle.graph_eval.specs.Made.{IsMadeFor}
 use Rattle.graph_eval.specs.Learned.{sets_of}
-use Rattle.graph_eval.specs.Memos.{AreKept, FitFrames}
+use Rattle.graph_eval.specs.declared.memos.MemoFrame.{MemoFrame}
+use Rattle.graph_eval.specs.Memos.{AreKept}
 use Rattle.graph_eval.specs.Needs.{AreTables, words_for}
 use Rattle.graph_eval.specs.Stacked.{IsReady}
 use Rattle.graph_eval.specs.Systems.{AreEnoughFor}
@@ -40,17 +41,9 @@ point_ready m graphs learned number old new entries point size empty pushed entr
       low = All-same (λ x. x < value_of m) _ _ words (point_low m point is);
     }
 
--- a worker that has the same room, and no word in use, is made for the same job
-pub made_again : (graphs : List Graph) (learned : List GraphLearned) (worker after : Worker) → IsMadeFor graphs learned worker → after.stack.size ≡ worker.stack.size → length after.stack.kept ≡ length worker.stack.kept → AreKept graphs (sets_of learned) after.frames.items after.moduli.items after.stack.kept → after.stack.words ≡ [] → vec_len after.work ≡ vec_len worker.work → after.tables ≡ worker.tables → after.frames ≡ worker.frames → IsMadeFor graphs learned after
-made_again graphs learned worker after made size kept memos empty work tables frames = record {
-  kept = kept ∙ made.kept;
-  size = size ∙ made.size;
-  empty = empty;
-  work = subst (AreEnoughFor graphs) (sym work) made.work;
-  tables = subst (AreTables graphs learned) (sym tables) made.tables;
-  frames = subst (λ fs. FitFrames graphs learned fs.items) (sym frames) made.frames;
-  memos = memos;
-}
+-- what memos keep doesn't rest on how it is told
+pub kept_same : (graphs : List Graph) (sets : List (List (List ℕ))) (frames : List MemoFrame) (moduli others : List (Option Modulus)) (kept more : List ℕ) → moduli ≡ others → kept ≡ more → AreKept graphs sets frames moduli kept → AreKept graphs sets frames others more
+kept_same graphs sets frames moduli others kept more same words_same are = subst (λ (ms : List (Option Modulus)). AreKept graphs sets frames ms more) same (subst (AreKept graphs sets frames moduli) words_same are)
 
 -- what is told fits the main graph
 pub fits_defined : (m : ℕ) (main : Option Graph) (point values : List ℕ) → HasInputs main point → All (λ x. x < m) values → FitsOutcome m main values answer.Defined

@@ -307,3 +307,142 @@ fn what_was_learned_and_a_worker_go_to_other_threads(rt: HostRuntime) -> Result<
     may_be_shared(&Outcome::Defined);
     Ok(())
 }
+
+/// The job of a file with several graphs.
+fn graphs_of(alloc: Global, text: &str) -> Result<Job, Fail> {
+    let bytes = text.as_bytes();
+    if bytes.len() > 16_777_216 {
+        return Err(Fail::from("a long text"));
+    }
+    Ok(read_graphs(alloc, bytes, Need::Points)?)
+}
+
+/// The lengths of the lists of a job's graphs, of which none solves a system.
+fn all_lengths(alloc: Global, job: &Job) -> Result<Learned, Fail>
+    ensures { IfOk result (Fits job.now.graphs) }
+{
+    let mut learned = Learned::new(alloc);
+    for number in 0..job.graphs.len() {
+        if has_solver(&job.graphs.as_slice()[number]) {
+            return Err(Fail::from("a solver"));
+        }
+        let Fresh::Learned(entry) = lengths_of(alloc, job, &learned, number as u32)? else {
+            return Err(Fail::from("a wrong length"));
+        };
+        learned.add(entry)?;
+    }
+    Ok(learned)
+}
+
+/// What one worker tells at each point of a file in order, the values of all of them one after the other, and how often it
+/// evaluated the first graph. All words that aren't kept are free behind each point.
+fn told_in_order(rt: &HostRuntime, text: &str) -> Result<(Vec<u64>, u64), Fail> {
+    let alloc = rt.alloc();
+    let job = graphs_of(alloc, text)?;
+    let learned = all_lengths(alloc, &job)?;
+    let mut worker = Worker::new(alloc, &job, &learned)?;
+    let free = worker.free_words();
+    let mut values = Vec::new(alloc);
+    let mut out = vec![in alloc; 0; learned.outputs()]?;
+    for point in job.points.as_slice() {
+        let Outcome::Defined = worker.eval_point(
+            &job,
+            &learned,
+            Modulus::first(),
+            point,
+            out.as_mut_slice(),
+        ) else {
+            return Err(Fail::from("a singular point"));
+        };
+        if worker.free_words() != free {
+            return Err(Fail::from("words that aren't free"));
+        }
+        values.extend_from_slice(out.as_slice())?;
+    }
+    Ok((values, worker.evaluations(0)))
+}
+
+/// A file that squares its one variable by a graph of its own, called in this way, at four points.
+fn squared(alloc: Global, kind: &str) -> Result<String, Fail> {
+    Ok(format!(in alloc;
+        "flow 1\ngraph sq\ninput u\nnode p eval input = u^2\noutput p\ngraph main\ninput x\nnode q {kind} sq input\noutput q\npoint 3\npoint 3\npoint 4\npoint 3\n"
+    )?)
+}
+
+#[test]
+fn a_graph_is_called_at_each_point(rt: HostRuntime) -> Result<(), Fail> {
+    let text = squared(rt.alloc(), "call")?;
+    let (values, evaluations) = told_in_order(&rt, text.as_str())?;
+    assert_eq!(rt; values.as_slice(), [9, 9, 16, 9].as_slice());
+    assert_eq!(rt; evaluations, 4);
+    Ok(())
+}
+
+#[test]
+fn a_memo_is_asked_anew_only_where_its_inputs_change(rt: HostRuntime) -> Result<(), Fail> {
+    let text = squared(rt.alloc(), "memo")?;
+    let (values, evaluations) = told_in_order(&rt, text.as_str())?;
+    assert_eq!(rt; values.as_slice(), [9, 9, 16, 9].as_slice());
+    assert_eq!(rt; evaluations, 3);
+    let job = graphs_of(rt.alloc(), text.as_str())?;
+    let learned = all_lengths(rt.alloc(), &job)?;
+    assert_eq!(rt; words_needed(&job, &learned), 6);
+    Ok(())
+}
+
+#[test]
+fn a_graph_is_mapped_over_lists(rt: HostRuntime) -> Result<(), Fail> {
+    let text =
+        "flow 1\ngraph sq\ninput u\nnode p eval input = u^2\noutput p\ngraph main\ninput x y\nnode a slice input 1 1\nnode b slice input 2 2\nnode q map sq a b\noutput q\npoint 3 5\n";
+    let (values, evaluations) = told_in_order(&rt, text)?;
+    assert_eq!(rt; values.as_slice(), [9, 25].as_slice());
+    assert_eq!(rt; evaluations, 2);
+    Ok(())
+}
+
+#[test]
+fn a_memo_keeps_by_its_modulus(rt: HostRuntime) -> Result<(), Fail> {
+    let alloc = rt.alloc();
+    let text =
+        "flow 1\ngraph sq\ninput u\nnode p eval input = u^2\noutput p\ngraph main\ninput x\nnode q memo sq input\noutput q\npoint 2305843009213693950\n";
+    let job = graphs_of(alloc, text)?;
+    let learned = all_lengths(alloc, &job)?;
+    let mut worker = Worker::new(alloc, &job, &learned)?;
+    let mut out = vec![in alloc; 0; learned.outputs()]?;
+    let point = job.points.as_slice().first().ok_or("no point")?;
+    for (m, want) in [
+        (Modulus::first(), 1),
+        (Modulus::second(), 5188146770730811396),
+        (Modulus::first(), 1),
+    ] {
+        assert_eq!(rt;
+            worker.eval_point(&job, &learned, m, point, out.as_mut_slice()),
+            Outcome::Defined
+        );
+        assert_eq!(rt; out.as_slice(), [want].as_slice());
+    }
+    Ok(())
+}
+
+#[test]
+fn a_called_graph_is_singular_at_the_calling_node(rt: HostRuntime) -> Result<(), Fail> {
+    let alloc = rt.alloc();
+    let text =
+        "flow 1\ngraph inv\ninput u\nnode c eval input = 1\nnode p eval input = 1/u\noutput p\ngraph main\ninput x y\nnode a slice input 1 1\nnode b slice input 2 2\nnode q map inv a b\noutput q\npoint 3 0\n";
+    let job = graphs_of(alloc, text)?;
+    let learned = all_lengths(alloc, &job)?;
+    let mut worker = Worker::new(alloc, &job, &learned)?;
+    let free = worker.free_words();
+    let mut out = vec![in alloc; 0; learned.outputs()]?;
+    let point = job.points.as_slice().first().ok_or("no point")?;
+    let singular = Outcome::Singular(Singular {
+        node: 2,
+        cause: Cause::Division,
+    });
+    assert_eq!(rt;
+        worker.eval_point(&job, &learned, Modulus::first(), point, out.as_mut_slice()),
+        singular
+    );
+    assert_eq!(rt; worker.free_words(), free);
+    Ok(())
+}

@@ -17,7 +17,7 @@ use lib.Seq.{take_at}
 use Rattle.graph_eval.specs.Stacked.{IsReady}
 use Rattle.graph_eval.specs.Systems.{AreEnoughFor}
 use Rattle.graph_eval.proofs.Fitting.{fits_known}
-use Rattle.graph_eval.proofs.Working.{fits_defined, fits_singular, made_again, point_ready}
+use Rattle.graph_eval.proofs.Working.{fits_defined, fits_singular, kept_same, point_ready}
 use Rattle.graph_eval.proofs.worker.Worker.eval_point.Goals as goal
 
 pub evaluate-requires-clause-sound : goal.evaluate-requires-clause-sound
@@ -78,11 +78,15 @@ returns-in-Ok-clause-made c =
     let told = subst (λ (fs : List MemoFrame). AreKept graphs sets fs moduli c.evaluate.new.stack.kept) c.as_slice-3.ensures.value
     (subst (λ (ls : List GraphLearned). AreKept graphs (sets_of ls) c.as_slice-3.result.now moduli c.evaluate.new.stack.kept) c.all.ensures
     (subst (λ (gs : List Graph). AreKept gs (sets_of c.all.result.now) c.as_slice-3.result.now moduli c.evaluate.new.stack.kept) c.as_slice-graphs.ensures c.evaluate.ensures.memos)) in
-    made_again c.args.job.now.graphs c.args.learned.now c.args.self.now _ c.requires.made
-    (ap (λ (b : Board). b.size) c.cut.ensures ∙ c.evaluate.ensures.size ∙ ap (λ (b : Board). b.size) c.push.ensures)
-    (ap length (ap (λ (b : Board). b.kept) c.cut.ensures) ∙ c.evaluate.ensures.kept ∙ ap length (ap (λ (b : Board). b.kept) c.push.ensures))
-    (subst (λ (k : List ℕ). AreKept graphs sets c.args.self.now.frames.items _ k) (sym (ap (λ (b : Board). b.kept) c.cut.ensures)) (subst (λ (ms : List (Option Modulus)). AreKept graphs sets c.args.self.now.frames.items ms c.evaluate.new.stack.kept) (sym (take_at moduli _ _ (c.evaluate.auto.moduli ∙ c.as_mut_slice.ensures.len))) told))
-    (ap (λ (b : Board). b.words) c.cut.ensures) refl refl refl
+    record {
+      kept = ap length (ap (λ (b : Board). b.kept) c.cut.ensures) ∙ c.evaluate.ensures.kept ∙ ap length (ap (λ (b : Board). b.kept) c.push.ensures) ∙ c.requires.made.kept;
+      size = ap (λ (b : Board). b.size) c.cut.ensures ∙ c.evaluate.ensures.size ∙ ap (λ (b : Board). b.size) c.push.ensures ∙ c.requires.made.size;
+      empty = ap (λ (b : Board). b.words) c.cut.ensures;
+      work = c.requires.made.work;
+      tables = c.requires.made.tables;
+      frames = c.requires.made.frames;
+      memos = kept_same graphs sets c.args.self.now.frames.items moduli _ c.evaluate.new.stack.kept _ (sym (take_at moduli _ _ (c.evaluate.auto.moduli ∙ c.as_mut_slice.ensures.len))) (sym (ap (λ (b : Board). b.kept) c.cut.ensures)) told;
+    }
 
 pub returns-in-Ok-clause-fits : goal.returns-in-Ok-clause-fits
 returns-in-Ok-clause-fits c =
@@ -112,11 +116,15 @@ returns-in-Err-clause-made c =
     let told = subst (λ (fs : List MemoFrame). AreKept graphs sets fs moduli c.evaluate.new.stack.kept) c.as_slice-3.ensures.value
     (subst (λ (ls : List GraphLearned). AreKept graphs (sets_of ls) c.as_slice-3.result.now moduli c.evaluate.new.stack.kept) c.all.ensures
     (subst (λ (gs : List Graph). AreKept gs (sets_of c.all.result.now) c.as_slice-3.result.now moduli c.evaluate.new.stack.kept) c.as_slice-graphs.ensures c.evaluate.ensures.memos)) in
-    made_again c.args.job.now.graphs c.args.learned.now c.args.self.now _ c.requires.made
-    (ap (λ (b : Board). b.size) c.cut-in-Err.ensures ∙ c.evaluate.ensures.size ∙ ap (λ (b : Board). b.size) c.push.ensures)
-    (ap length (ap (λ (b : Board). b.kept) c.cut-in-Err.ensures) ∙ c.evaluate.ensures.kept ∙ ap length (ap (λ (b : Board). b.kept) c.push.ensures))
-    (subst (λ (k : List ℕ). AreKept graphs sets c.args.self.now.frames.items _ k) (sym (ap (λ (b : Board). b.kept) c.cut-in-Err.ensures)) (subst (λ (ms : List (Option Modulus)). AreKept graphs sets c.args.self.now.frames.items ms c.evaluate.new.stack.kept) (sym (take_at moduli _ _ (c.evaluate.auto.moduli ∙ c.as_mut_slice.ensures.len))) told))
-    (ap (λ (b : Board). b.words) c.cut-in-Err.ensures) refl refl refl
+    record {
+      kept = ap length (ap (λ (b : Board). b.kept) c.cut-in-Err.ensures) ∙ c.evaluate.ensures.kept ∙ ap length (ap (λ (b : Board). b.kept) c.push.ensures) ∙ c.requires.made.kept;
+      size = ap (λ (b : Board). b.size) c.cut-in-Err.ensures ∙ c.evaluate.ensures.size ∙ ap (λ (b : Board). b.size) c.push.ensures ∙ c.requires.made.size;
+      empty = ap (λ (b : Board). b.words) c.cut-in-Err.ensures;
+      work = c.requires.made.work;
+      tables = c.requires.made.tables;
+      frames = c.requires.made.frames;
+      memos = kept_same graphs sets c.args.self.now.frames.items moduli _ c.evaluate.new.stack.kept _ (sym (take_at moduli _ _ (c.evaluate.auto.moduli ∙ c.as_mut_slice.ensures.len))) (sym (ap (λ (b : Board). b.kept) c.cut-in-Err.ensures)) told;
+    }
 
 pub returns-in-Err-clause-fits : goal.returns-in-Err-clause-fits
 returns-in-Err-clause-fits c =
