@@ -1,10 +1,12 @@
 -- The next point's row joins the rows.
-use Rattle.std.proofs.Common.{◌≡◌, length, ap, arith}
+use Rattle.std.proofs.Common.{◌≡◌, ℕ, All, List, length, take, ap, sym, ◌∙◌, subst, arith}
+use Rattle.std.proofs.lemmas.List.{take_all}
 use Rattle.std.specs.Prelude.{slice_get}
 use Rattle.prime_field.specs.Modulus.{value_of}
 use Rattle.prime_field.specs.Residue.{IsPrime}
 use Rattle.graph_eval.specs.GraphValue.{GraphValue, main_number}
 use Rattle.graph_eval.specs.Learned.{outputs_of, sets_of}
+use Rattle.parallel_sampler.specs.Rows.{AreOutcomes, FitsRow, rows_of}
 use Rattle.parallel_sampler.proofs.Tables.{rows_many, table_next}
 use Rattle.parallel_sampler.proofs.sampling.sample.Goals as goal
 
@@ -24,3 +26,22 @@ loop-point-preserved c =
 pub returns-clause-count : goal.returns-clause-count
 returns-clause-count c =
     omega (arith, ap length c.of.ensures, rows_many c.outputs-outputs.result c.loop-point.words.items c.loop-point.told.items, c.loop-point.invariant.2.many, c.loop-point-test.false, c.loop-point.auto.point-index-end)
+
+pub returns-clause-rows : goal.returns-clause-rows
+returns-clause-rows c prime =
+    let graphs = c.args.job.now.graphs in
+    let meaning = GraphValue (value_of c.args.m) graphs (sets_of c.args.learned.now) (main_number graphs) in
+    let points = c.args.points.now in
+    let words = c.loop-point.words.items in
+    let told = c.loop-point.told.items in
+    let rows : rows_of (outputs_of c.args.learned.now) words told ≡ c.of.result = ap (λ n. rows_of n words told) (sym c.outputs-outputs.ensures) ∙ sym c.of.ensures in
+    subst (λ (ps : List (List ℕ)). AreOutcomes meaning ps c.of.result) (take_all c.loop-point.point-index points (omega (arith, c.loop-point-test.false)))
+    (subst (AreOutcomes meaning (take c.loop-point.point-index points)) rows (c.loop-point.invariant.2.are prime))
+
+pub returns-clause-fits : goal.returns-clause-fits
+returns-clause-fits c =
+    let graphs = c.args.job.now.graphs in
+    let words = c.loop-point.words.items in
+    let told = c.loop-point.told.items in
+    let rows : rows_of (outputs_of c.args.learned.now) words told ≡ c.of.result = ap (λ n. rows_of n words told) (sym c.outputs-outputs.ensures) ∙ sym c.of.ensures in
+    subst (All (FitsRow (value_of c.args.m) (slice_get graphs (main_number graphs)) (outputs_of c.args.learned.now))) rows c.loop-point.invariant.2.fits
