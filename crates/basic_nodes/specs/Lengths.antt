@@ -2,7 +2,7 @@
 use Rattle.std.specs.Prelude.{◌≡◌, ℕ, ◌+◌, ◌-◌, ◌*◌, ◌≤◌, ◌==◌, nat_le, Bool, true, false, ◌&&◌, if◌then◌else◌, List, [], ◌∷◌, length, slice_index, sum, All, Option, Some, None}
 use Rattle.std.specs.List.{list_all}
 use Rattle.basic_nodes.specs.declared.lengths.NodeShape.{NodeShape}
-use Rattle.basic_nodes.specs.declared.lengths.NodeShape.TheVariants.{Eval, Take, Slice, Chain, Sum, Product, Matmul, Solver, Call, Map}
+use Rattle.basic_nodes.specs.declared.lengths.NodeShape.TheVariants.{Eval, Take, Slice, Chain, Sum, Product, Matmul, Solver, Call, Map, Laurent}
 
 -- a position is from 1 to 262144
 abbrev pub IsPosition : ℕ → Type 0
@@ -29,6 +29,7 @@ IsShape (Matmul rows mid cols) = IsMatmul rows mid cols
 IsShape (Solver entries wanted independent) = independent ≤ 4096
 IsShape (Call inputs outputs) = inputs ≤ 262144
 IsShape (Map inputs outputs) = Unit {0}
+IsShape (Laurent inputs outputs orders) = inputs ≤ 262144
 
 -- a node of this kind names this many lists
 abbrev pub HasLists : NodeShape → ℕ → Type 0
@@ -42,6 +43,7 @@ HasLists (Matmul rows mid cols) lists = lists ≡ 2
 HasLists (Solver entries wanted independent) lists = lists ≡ 1
 HasLists (Call inputs outputs) lists = Unit {0}
 HasLists (Map inputs outputs) lists = Unit {0}
+HasLists (Laurent inputs outputs orders) lists = Unit {0}
 
 -- the node's own length, if the rule of its kind holds and the length is at most 262144
 abbrev pub ruled : Bool → ℕ → Option ℕ
@@ -74,3 +76,4 @@ length_rule (Matmul rows mid cols) lengths =
 length_rule (Solver entries wanted independent) lengths = ruled (slice_index lengths 0 == entries) (wanted * (independent + 1))
 length_rule (Call inputs outputs) lengths = ruled (sum lengths == inputs) outputs
 length_rule (Map inputs outputs) lengths = ruled (are_all inputs lengths) (length lengths * outputs)
+length_rule (Laurent inputs outputs orders) lengths = ruled (sum lengths + 1 == inputs) (outputs * orders)

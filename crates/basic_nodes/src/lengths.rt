@@ -57,6 +57,13 @@ pub enum NodeShape {
         inputs: usize,
         outputs: usize,
     },
+    /// So many coefficients of the expansion of each of the outputs of a graph in powers of its first input. The lists, one
+    /// after the other, give the other inputs.
+    Laurent {
+        inputs: usize,
+        outputs: usize,
+        orders: usize,
+    },
 }
 
 /// The most entries that the list of a node may have.
@@ -104,6 +111,15 @@ pub fn length_of(kind: &NodeShape, lengths: &[usize]) -> Result<usize, LengthErr
         NodeShape::Map { inputs, outputs } => {
             let own = lengths.len().checked_mul(*outputs).ok_or(LengthError)?;
             ruled(are_all(*inputs, lengths), own)
+        }
+        NodeShape::Laurent {
+            inputs,
+            outputs,
+            orders,
+        } => {
+            let total = total_of(lengths)?;
+            let own = outputs.checked_mul(*orders).ok_or(LengthError)?;
+            ruled(total + 1 == *inputs, own)
         }
     }
 }

@@ -115,3 +115,29 @@ fn lengths_follow_the_rules(rt: HostRuntime) -> Result<(), Fail> {
     assert_eq!(rt; length_of(&kind, &[1, 2]), Err(LengthError));
     Ok(())
 }
+
+#[test]
+fn expansions_have_one_input_beside_the_lists(rt: HostRuntime) {
+    let kind = NodeShape::Laurent {
+        inputs: 4,
+        outputs: 7,
+        orders: 3,
+    };
+    assert_eq!(rt; length_of(&kind, &[1, 2]), Ok(21));
+    assert_eq!(rt; length_of(&kind, &[2, 2]), Err(LengthError));
+
+    let kind = NodeShape::Laurent {
+        inputs: 1,
+        outputs: 2048,
+        orders: 128,
+    };
+    assert_eq!(rt; length_of(&kind, &[]), Ok(262144));
+    assert_eq!(rt; length_of(&kind, &[1]), Err(LengthError));
+
+    let kind = NodeShape::Laurent {
+        inputs: 1,
+        outputs: 2048,
+        orders: 129,
+    };
+    assert_eq!(rt; length_of(&kind, &[]), Err(LengthError));
+}

@@ -3,6 +3,7 @@
 
 use flow_base::{RealShelf, RealSink};
 use flow_program::{refuse, run, words_of};
+use parallel_sampler::OpenGate;
 use std::process::ExitCode;
 
 #[cfg(test)]
@@ -15,7 +16,9 @@ fn main(rt: HostRuntime) -> ExitCode {
     let status = match words_of(alloc, &rt) {
         Ok(words) => {
             let mut shelf = RealShelf::new(rt, alloc);
-            run(alloc, &words, &mut shelf, &mut out, &mut err)
+            run(
+                &rt, alloc, &words, &mut shelf, &mut out, &mut err, &OpenGate,
+            )
         }
         Err(error) => refuse(alloc, error, &mut err),
     };

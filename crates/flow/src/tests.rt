@@ -2,6 +2,7 @@
 
 use flow_base::{MemSink, RealShelf};
 use flow_program::run;
+use parallel_sampler::OpenGate;
 use std::test::Fail;
 
 /// Runs `sample` on the file of this name, and fails where it tells anything but this, with nothing on out.
@@ -13,7 +14,9 @@ fn expect(rt: HostRuntime, name: &str, status: u8, text: &str) -> Result<(), Fai
     let mut out = MemSink::new(alloc, 4096, Vec::new(alloc))?;
     let mut err = MemSink::new(alloc, 4096, Vec::new(alloc))?;
     let mut shelf = RealShelf::new(rt, alloc);
-    let end = run(alloc, &words, &mut shelf, &mut out, &mut err);
+    let end = run(
+        &rt, alloc, &words, &mut shelf, &mut out, &mut err, &OpenGate,
+    );
     if end.code() != status || !out.held().is_empty() || err.held() != text.as_bytes() {
         return Err(Fail::from("the run told something else"));
     }

@@ -1,5 +1,5 @@
 -- A run on the file of the example prints its output, which is the variable.
-use Rattle.std.proofs.Common.{◌≡◌, ℕ, zero, suc, ◌<◌, List, [], ◌∷◌, length, All, Some, None, refl, subst, arith, lit<, lit≤, inr}
+use Rattle.std.proofs.Common.{◌≡◌, ℕ, zero, suc, ◌<◌, false, List, [], ◌∷◌, length, All, Some, None, refl, subst, arith, lit<, lit≤, inr}
 use Rattle.std.specs.Prelude.{codes, slice_get, take}
 use Rattle.std.specs.Fmt.{digits}
 use Rattle.std.specs.List.{AllByRecursion}
@@ -29,7 +29,7 @@ use Rattle.learn_phase.specs.LearnedSets.{LearnedSets, Learns, LearnsGraph, Plac
 use Rattle.good_attempt.specs.Attempts.{AreRows, Taken}
 use Rattle.output_result.specs.Outputs.{IsQuotient, Output, ReducesWellAt}
 use Rattle.output_result.specs.Results.{Lifts, OutputResult, Result}
-use Rattle.output_result.specs.Texts.{results_text}
+use Rattle.output_result.specs.Texts.{Report, results_text}
 use Rattle.reconstruction.specs.Form.{IsAsked, functions_of}
 use Rattle.reconstruction.specs.Functions.{AreResults, AreTaken, Found, Functions, IsOutput, Reconstructs, output_of}
 use Rattle.reconstruction.specs.Headline.{Prints, QuotientPrinted}
@@ -37,7 +37,7 @@ use Rattle.reconstruction.proofs.Variable.{AreSingle, constant, is_variable, lin
 use Rattle.flow_program.specs.declared.task.Task.TheVariants as task
 use Rattle.flow_program.specs.Example.{Exhibits, example_file, example_files, example_text, example_words}
 use Rattle.flow_program.specs.Jobs.{IsLearned, success}
-use Rattle.flow_program.specs.Reconstructed.{findings_answer}
+use Rattle.flow_program.specs.Reconstructed.{findings_answer, no_reports}
 use Rattle.flow_program.specs.Run.{ModuliArePrime, RunAnswer}
 use Rattle.flow_program.specs.Words.{Reconstruct}
 use Rattle.flow_program.proofs.ExampleFile.{example_form, example_graph, good, says}
@@ -47,8 +47,8 @@ pub record Laws : Type 0 where
   pub bounds : (need : Need) (bytes : List ℕ) (f : FileForm) → IsGoodFile need bytes → Says need bytes f → HasBounds f.graphs f.all f.special f.coeff need
   pub entries : (g : Grid) (r : ℕ) → IsGrid g → All (λ x. length x ≡ g.variables) (attempt_points g r)
   pub quotient_is_found : (c : Coeff) (o : Output) (F : RationalPair) → ((m : Modulus) → IsPrime (value_of m)) → IsQuotient c o F → ReducesWellAt o F → OutputResult c o (Lifts (Lifted F))
-  pub quotients : (bytes : List ℕ) (form : FileForm) (learned : List GraphLearned) (results : List Result) → ((m : Modulus) → IsPrime (value_of m)) → IsAsked bytes form learned
-      → Reconstructs (functions_of form learned) (Found results) → QuotientPrinted (functions_of form learned) (results_text (functions_of form learned).names results)
+  pub quotients : (bytes : List ℕ) (form : FileForm) (learned : List GraphLearned) (reports : ℕ → Report) (results : List Result) → ((m : Modulus) → IsPrime (value_of m)) → IsAsked bytes form learned
+      → Reconstructs (functions_of form learned) (Found results) → QuotientPrinted (functions_of form learned) (results_text (functions_of form learned).names reports results)
 
 -- both moduli are above 1
 above_one : (m : Modulus) → 1 < value_of m
@@ -92,7 +92,7 @@ job = functions_of example_form learned
 abbrev grid : Grid
 grid = grid_of example_form
 
-is_learned : IsLearned task.Reconstruct example_file example_form learned
+is_learned : IsLearned (task.Reconstruct false) example_file example_form learned
 is_learned = record { fits = lit≤ tt; good = good; says = says; learns = learns }
 
 -- the graph gives the list of its inputs
@@ -134,11 +134,11 @@ is_asked = record { good = good; says = says; room = lit≤ tt }
 abbrev results : List Result
 results = Lifts (Lifted variable) ∷ []
 
-is_text : results_text job.names results ≡ example_text
+is_text : results_text job.names no_reports results ≡ example_text
 unfolding digits
 is_text = refl
 
-told : success example_text ≡ findings_answer (Some example_graph) (Found results)
+told : success example_text ≡ findings_answer results_text (Some example_graph) no_reports (Found results)
 unfolding digits
 told = refl
 
@@ -173,20 +173,24 @@ module _ (laws : Laws) where
       good = good;
       form = example_form;
       says = says;
-      right = record { lesson = Learns learned; learns = learns; right = (Found results, reconstructs, told) };
+      right = record {
+        lesson = Learns learned;
+        learns = learns;
+        right = record { findings = Found results; are = reconstructs; reports = no_reports; are_reports = refl; told = told };
+      };
     })
 
     prints : Prints job example_text 0 variable
     prints =
         subst (λ t. Prints job t 0 variable) is_text
-        (laws.quotients example_file example_form learned results (prime primes) is_asked reconstructs taken 0 variable are_taken (lit< tt) quotient reduces)
+        (laws.quotients example_file example_form learned no_reports results (prime primes) is_asked reconstructs taken 0 variable are_taken (lit< tt) quotient reduces)
 
     pub exhibited : Exhibits example_words example_files
     exhibited = record {
       answer = success example_text;
       right = answers;
       ends = refl;
-      wish = Reconstruct (codes "one.flow");
+      wish = Reconstruct (codes "one.flow") 1 false;
       asks = refl;
       functions = tt;
       form = example_form;

@@ -9,9 +9,9 @@ use Rattle.graph_eval.specs.declared.learned.GraphLearned.{GraphLearned}
 use Rattle.learn_phase.specs.LearnedSets.{LearnedSets, Learns, Lesson}
 use Rattle.flow_program.specs.declared.task.Task.{Task}
 use Rattle.flow_program.specs.Answer.{Answer}
-use Rattle.flow_program.specs.Words.{Request, asked, file_of}
+use Rattle.flow_program.specs.Words.{Request, asked}
 use Rattle.flow_program.specs.Jobs.{FileAnswer, IsLearned, JobAnswer, LearnedAnswer, LessonAnswer, ShortAnswer, long_answer, most_bytes}
-use Rattle.flow_program.specs.Run.{Files, RequestAnswer, RunAnswer}
+use Rattle.flow_program.specs.Run.{Files, RequestAnswer, RunAnswer, bytes_of}
 use Rattle.flow_program.specs.Tasks.{need_of, task_of}
 
 -- the laws that it rests on
@@ -30,6 +30,6 @@ read_well laws what bytes form learned answer is (inr read) =
 file_well : (laws : Laws) (what : Task) (bytes : List ℕ) (form : FileForm) (learned : List GraphLearned) (answer : Answer) → IsLearned what bytes form learned → FileAnswer what bytes answer → LearnedAnswer what form learned answer
 file_well laws what bytes form learned answer is right = read_well laws what bytes form learned answer is (subst (λ b. MatchBool b (answer ≡ long_answer) (ShortAnswer what bytes answer)) (le-ltb most_bytes (length bytes) is.fits) right)
 
-pub answered_well : (laws : Laws) (words : List (List ℕ)) (wish : Request) (files : Files) (form : FileForm) (learned : List GraphLearned) (answer : Answer) → asked words ≡ Some wish → IsLearned (task_of wish) (files (file_of wish)) form learned
+pub answered_well : (laws : Laws) (words : List (List ℕ)) (wish : Request) (files : Files) (form : FileForm) (learned : List GraphLearned) (answer : Answer) → asked words ≡ Some wish → IsLearned (task_of wish) (bytes_of wish files) form learned
     → RunAnswer words files answer → LearnedAnswer (task_of wish) form learned answer
-answered_well laws words wish files form learned answer asks is right = file_well laws (task_of wish) (files (file_of wish)) form learned answer is (subst (λ (r : Option Request). RequestAnswer r words files answer) asks right)
+answered_well laws words wish files form learned answer asks is right = file_well laws (task_of wish) (bytes_of wish files) form learned answer is (subst (λ (r : Option Request). RequestAnswer r words files answer) asks right)

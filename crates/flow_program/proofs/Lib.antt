@@ -1,11 +1,14 @@
+pub mod DemoLaws
 pub mod Ends
 pub mod ExampleFile
 pub mod ExampleRun
+pub mod FirstLaws
 pub mod FunctionLaws
 pub mod JobLaws
 pub mod JoinLaws
 pub mod LearnedFiles
 pub mod LessonLaws
+pub mod LineLaws
 pub mod OneAnswer
 pub mod RunLaws
 pub mod SamplingLaws

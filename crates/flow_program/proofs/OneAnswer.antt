@@ -8,23 +8,26 @@ use Rattle.graph_file.specs.declared.error.FileKind.{FileKind}
 use Rattle.graph_file.specs.declared.graph.Graph.{Graph}
 use Rattle.graph_file.specs.declared.job.Need.{Need}
 use Rattle.graph_file.specs.File.{IsFirstBad, IsGoodFile}
-use Rattle.graph_file.specs.Says.{FileForm, Says}
+use Rattle.graph_file.specs.Says.{FileForm, Says, grid_of}
 use Rattle.graph_eval.specs.declared.learned.GraphLearned.{GraphLearned}
 use Rattle.graph_eval.specs.GraphValue.{Outcome, GraphValue, main_number}
 use Rattle.graph_eval.specs.Learned.{sets_of}
 use Rattle.learn_phase.specs.LearnedSets.{BreaksLength, LearnedSets, Learns, Lesson, NoPoint}
 use Rattle.parallel_sampler.proofs.Tables.{outcomes_once}
+use Rattle.ray_grid.specs.Grid.{point_count}
+use Rattle.output_result.specs.Results.{Result}
+use Rattle.output_result.specs.Texts.{Report, results_text}
 use Rattle.reconstruction.specs.Form.{IsAsked, functions_of}
-use Rattle.reconstruction.specs.Functions.{Findings, Reconstructs}
-use Rattle.flow_program.specs.Reconstructed.{findings_answer}
+use Rattle.reconstruction.specs.Functions.{AreReported, Exhausted, Findings, Found, Reconstructs}
+use Rattle.flow_program.specs.Reconstructed.{Telling, demo_text, findings_answer, results_answer}
 use Rattle.flow_program.specs.declared.task.Task.{Task}
 use Rattle.flow_program.specs.declared.task.Task.TheVariants as task
 use Rattle.flow_program.specs.Answer.{Answer, refusal}
-use Rattle.flow_program.specs.Words.{Request, asked, file_of}
+use Rattle.flow_program.specs.Words.{Request, asked}
 use Rattle.flow_program.specs.Refusals.{file_text, length_text, no_point_text, told_list}
 use Rattle.flow_program.specs.Sampled.{SamplesTo, sampled}
-use Rattle.flow_program.specs.Jobs.{IsUnlearned, JobAnswer, LearnedAnswer, LessonAnswer, ShortAnswer, long_answer, most_bytes, success}
-use Rattle.flow_program.specs.Run.{Files, RequestAnswer, RunAnswer, words_answer}
+use Rattle.flow_program.specs.Jobs.{IsUnlearned, JobAnswer, LearnedAnswer, LessonAnswer, ShortAnswer, TellsFindings, long_answer, most_bytes, success}
+use Rattle.flow_program.specs.Run.{Files, RequestAnswer, RunAnswer, bytes_of, words_answer}
 use Rattle.flow_program.specs.Tasks.{need_of, task_of}
 use Rattle.flow_program.proofs.WordsLaws.{one_bad_place}
 
@@ -35,6 +38,8 @@ pub record Laws : Type 0 where
   pub one_told : (need : Need) (bytes : List ℕ) (n k : ℕ) (a b : FileKind) → IsFirstBad need bytes n a → IsFirstBad need bytes k b → (n ≡ k) × (a ≡ b)
   pub told_or_nothing : (need : Need) (bytes : List ℕ) (n : ℕ) (a : FileKind) → IsFirstBad need bytes n a → IsGoodFile need bytes → ⊥
   pub one_finding : (bytes : List ℕ) (form : FileForm) (learned : List GraphLearned) (a b : Findings) → IsAsked bytes form learned → Reconstructs (functions_of form learned) a → Reconstructs (functions_of form learned) b → a ≡ b
+  pub one_report : (bytes : List ℕ) (form : FileForm) (learned : List GraphLearned) (r s : ℕ → Report) (results : List Result) → IsAsked bytes form learned → AreReported (functions_of form learned) (Found results) r
+      → AreReported (functions_of form learned) (Found results) s → results_text (functions_of form learned).names r results ≡ results_text (functions_of form learned).names s results
   pub one_form : (need : Need) (bytes : List ℕ) (f g : FileForm) → Says need bytes f → Says need bytes g → f ≡ g
 
 -- both moduli are above 1
@@ -71,14 +76,38 @@ record ReadsAs (what : Task) (bytes : List ℕ) (form : FileForm) : Type 0 where
   good : IsGoodFile (need_of what) bytes
   says : Says (need_of what) bytes form
 
+-- what a file asks for as functions has one finding, and one text that tells it
+module _ (laws : Laws) (bytes : List ℕ) (form : FileForm) (learned : List GraphLearned) (asked : IsAsked bytes form learned) where
+  -- where nothing is reported
+  plain_once : (telling : Telling) (a b : Answer) → TellsFindings false telling form learned a → TellsFindings false telling form learned b → a ≡ b
+  plain_once telling a b first second =
+      let graph : Option Graph = slice_get form.graphs (main_number form.graphs) in
+      first.told ∙ ap (λ (r : ℕ → Report). findings_answer telling graph r first.findings) (first.are_reports ∙ sym second.are_reports)
+      ∙ ap (findings_answer telling graph second.reports) (laws.one_finding bytes form learned first.findings second.findings asked first.are second.are) ∙ sym second.told
+
+  -- and where reports are told
+  reported_once : (findings : Findings) (r s : ℕ → Report) → AreReported (functions_of form learned) findings r → AreReported (functions_of form learned) findings s
+      → findings_answer results_text (slice_get form.graphs (main_number form.graphs)) r findings ≡ findings_answer results_text (slice_get form.graphs (main_number form.graphs)) s findings
+  reported_once (Exhausted m gaps) r s first second = refl
+  reported_once (Found results) r s first second = ap (λ (text : List ℕ). results_answer text results) (laws.one_report bytes form learned r s results asked first second)
+
+  lines_once : (report : Bool) (a b : Answer) → TellsFindings report results_text form learned a → TellsFindings report results_text form learned b → a ≡ b
+  lines_once true a b first second =
+      let graph : Option Graph = slice_get form.graphs (main_number form.graphs) in
+      let same : first.findings ≡ second.findings = laws.one_finding bytes form learned first.findings second.findings asked first.are second.are in
+      first.told ∙ ap (findings_answer results_text graph first.reports) same
+      ∙ reported_once second.findings first.reports second.reports (subst (λ (f : Findings). AreReported (functions_of form learned) f first.reports) same first.are_reports) second.are_reports ∙ sym second.told
+  lines_once false a b first second = plain_once results_text a b first second
+
 learned_once : (laws : Laws) (what : Task) (bytes : List ℕ) (form : FileForm) (a b : Answer) (learned : List GraphLearned) → ReadsAs what bytes form → LearnedSets (need_of what) form (Learns learned)
     → LearnedAnswer what form learned a → LearnedAnswer what form learned b → a ≡ b
 learned_once laws (task.Sample m) bytes form a b learned reads learns first second =
     first.2 ∙ ap success (text_once laws m form.graphs (sets_of learned) form.points first.0 second.0 first.1 second.1) ∙ sym second.2
 learned_once laws task.Learn bytes form a b learned reads learns first second = first ∙ sym second
-learned_once laws task.Reconstruct bytes form a b learned reads learns first second =
-    let asked : IsAsked bytes form learned = record { good = reads.good; says = reads.says; room = learns.1.0 } in
-    first.2 ∙ ap (findings_answer (slice_get form.graphs (main_number form.graphs))) (laws.one_finding bytes form learned first.0 second.0 asked first.1 second.1) ∙ sym second.2
+learned_once laws (task.Reconstruct report) bytes form a b learned reads learns first second =
+    lines_once laws bytes form learned (record { good = reads.good; says = reads.says; room = learns.1.0 }) report a b first second
+learned_once laws (task.Demo n) bytes form a b learned reads learns first second =
+    plain_once laws bytes form learned (record { good = reads.good; says = reads.says; room = learns.1.0 }) (demo_text n (point_count (grid_of form))) a b first second
 
 job_once : (laws : Laws) (what : Task) (bytes : List ℕ) (form : FileForm) (a b : Answer) → ReadsAs what bytes form → JobAnswer what form a → JobAnswer what form b → a ≡ b
 job_once laws what bytes form a b reads first second = job_by_lesson laws what form a b (λ learned learns. learned_once laws what bytes form a b learned reads learns) first second
@@ -98,7 +127,7 @@ file_once laws what bytes false a b first second = few_once laws what bytes a b 
 
 request_once : (laws : Laws) (request : Option Request) (words : List (List ℕ)) (files : Files) (a b : Answer) → RequestAnswer request words files a → RequestAnswer request words files b → a ≡ b
 request_once laws None words files a b first second = first.2 ∙ ap words_answer (one_bad_place words first.0 second.0 first.1 second.1) ∙ sym second.2
-request_once laws (Some wish) words files a b first second = file_once laws (task_of wish) (files (file_of wish)) (nat_lt most_bytes (length (files (file_of wish)))) a b first second
+request_once laws (Some wish) words files a b first second = file_once laws (task_of wish) (bytes_of wish files) (nat_lt most_bytes (length (bytes_of wish files))) a b first second
 
 pub one_run : (laws : Laws) (words : List (List ℕ)) (files : Files) (a b : Answer) → RunAnswer words files a → RunAnswer words files b → a ≡ b
 one_run laws words files a b first second = request_once laws (asked words) words files a b first second

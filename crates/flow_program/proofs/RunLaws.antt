@@ -1,6 +1,6 @@
 -- What a file that is read whole, or to a length over the limit, says of the run's answer.
-use Rattle.std.proofs.Common.{◌≡◌, ℕ, ◌<◌, ◌≤◌, List, [], length, Option, Some, None, refl, sym, ◌∙◌, ap, subst, MatchBool, inl, inr, arith}
-use Rattle.std.specs.Prelude.{◌⊎◌, ◌↔◌}
+use Rattle.std.proofs.Common.{◌≡◌, ℕ, ◌<◌, ◌≤◌, List, [], length, Option, Some, None, Result, Ok, Err, refl, sym, ◌∙◌, ap, subst, MatchBool, inl, inr, arith}
+use Rattle.std.specs.Prelude.{◌⊎◌, ◌↔◌, IfOk}
 use Rattle.std.specs.Option.{ForSome}
 use Rattle.std.proofs.lemmas.Bool.{le-ltb, lt-ltb}
 use Rattle.flow_base.specs.Shelf.{ShelfView, Opens, TakesMore}
@@ -12,16 +12,18 @@ use Rattle.graph_file.specs.Read.{IsRefusal}
 use Rattle.graph_file.specs.Says.{FileForm, Says}
 use Rattle.flow_program.specs.declared.task.Task.{Task}
 use Rattle.graph_eval.specs.declared.learned.GraphLearned.{GraphLearned}
-use Rattle.flow_program.specs.Words.{Request, IsBadAt, asked, file_of, names_read}
+use Rattle.flow_program.specs.Words.{Request, Sample, Learn, Reconstruct, Demo, IsBadAt, asked, names_read}
 use Rattle.flow_program.specs.Answer.{Answer, refusal}
 use Rattle.flow_program.specs.Jobs.{FileAnswer, HasBadLine, IsLearned, IsNoJob, JobAnswer, LearnedAnswer, ShortAnswer, long_answer, most_bytes}
-use Rattle.flow_program.specs.Run.{Files, IsBadFile, ModuliArePrime, Premise, RequestAnswer, RunAnswer, words_answer}
+use Rattle.flow_program.specs.Run.{Files, IsBadFile, ModuliArePrime, Premise, RequestAnswer, RunAnswer, bytes_of, words_answer}
 use Rattle.flow_program.specs.Tasks.{need_of, task_of}
 use Rattle.flow_program.specs.declared.status.Status.{Status}
 use Rattle.flow_program.specs.declared.status.Status.TheVariants.{Done, Unfound, BadWords, BadFile, NotLearned, Exhausted, ReadFault, WriteFault, NoMemory}
 use Rattle.flow_program.specs.Refusals.{file_text}
 use Rattle.flow_program.specs.Status.{IsJobStatus, code_of}
-use Rattle.flow_program.specs.Outside.{AllMayStand, IsLearnable, IsRightAnswer, MayStand, MayStandAsked, StandsAnswered}
+use Rattle.flow_program.specs.Reply.{answer_of}
+use Rattle.flow_program.specs.declared.reply.Reply.{Reply}
+use Rattle.flow_program.specs.Outside.{AllMayStand, IsLearnable, IsRightAnswer, MayStand, MayStandAsked, StandsAnswered, told_of}
 
 -- the answer of bytes that are not too many is that of what they say
 of_few : (what : Task) (bytes : List ℕ) (answer : Answer) → length bytes ≤ most_bytes → ShortAnswer what bytes answer → FileAnswer what bytes answer
@@ -75,20 +77,44 @@ read_file what None opened bytes answer opens whole few right bad = short_file w
 read_file what (Some None) opened bytes answer opens whole few right bad = absurd opens
 read_file what (Some (Some stood)) opened bytes answer opens whole few right bad = short_file what (Some (Some stood)) bytes answer (sym (whole stood opens)) few right bad
 
-named_premise : (words : List (List ℕ)) (wish : Request) (files : Files) → asked words ≡ Some wish → Premise words files → ModuliArePrime ⊎ IsNoJob (task_of wish) (files (file_of wish))
+named_premise : (words : List (List ℕ)) (wish : Request) (files : Files) → asked words ≡ Some wish → Premise words files → ModuliArePrime ⊎ IsNoJob (task_of wish) (bytes_of wish files)
 named_premise words wish files is (inl prime) = inl prime
 named_premise words wish files is (inr (inl none)) = let clash : Some wish ≡ None = sym is ∙ none in cc
 named_premise words wish files is (inr (inr bad)) = inr (subst (λ (r : Option Request). IsBadFile r files) is bad)
 
--- what is told of a file that the words name is told of the words
-pub named_right : (words : List (List ℕ)) (shelf : ShelfView) (wish : Request) (answer : Answer) → asked words ≡ Some wish → StandsAnswered (task_of wish) (shelf.files (file_of wish)) answer → IsRightAnswer words shelf answer
+-- bytes that may stand where a request reads are those that it works on, if they stand under each name
+works_on : (wish : Request) (shelf : ShelfView) (bytes : List ℕ) → MayStand (told_of wish shelf) bytes → bytes_of wish (λ name. bytes) ≡ bytes
+works_on (Sample file workers second) shelf bytes stood = refl
+works_on (Learn file) shelf bytes stood = refl
+works_on (Reconstruct file workers report) shelf bytes stood = refl
+works_on (Demo n workers) shelf bytes stood = stood
+
+-- and they may stand under the names that it reads
+stand_read : (wish : Request) (shelf : ShelfView) (bytes : List ℕ) → MayStand (told_of wish shelf) bytes → AllMayStand shelf (λ name. bytes) (names_read wish)
+stand_read (Sample file workers second) shelf bytes stood = (stood, tt)
+stand_read (Learn file) shelf bytes stood = (stood, tt)
+stand_read (Reconstruct file workers report) shelf bytes stood = (stood, tt)
+stand_read (Demo n workers) shelf bytes stood = tt
+
+-- what a request works on may stand where it reads, if each of its names may
+pub works_on_read : (wish : Request) (shelf : ShelfView) (files : Files) → AllMayStand shelf files (names_read wish) → MayStand (told_of wish shelf) (bytes_of wish files)
+works_on_read (Sample file workers second) shelf files stood = stood.0
+works_on_read (Learn file) shelf files stood = stood.0
+works_on_read (Reconstruct file workers report) shelf files stood = stood.0
+works_on_read (Demo n workers) shelf files stood = refl
+
+-- what is told of the bytes that the words ask about is told of the words
+pub named_right : (words : List (List ℕ)) (shelf : ShelfView) (wish : Request) (answer : Answer) → asked words ≡ Some wish → StandsAnswered (task_of wish) (told_of wish shelf) answer → IsRightAnswer words shelf answer
 named_right words shelf wish answer is stands =
     let files : Files = λ name. stands.bytes in
+    let same : bytes_of wish files ≡ stands.bytes = works_on wish shelf stands.bytes stands.stood in
     record {
       files = files;
-      stood = subst (λ (r : Option Request). MayStandAsked r shelf files) (sym is) (stands.stood, tt);
-      right = λ premise. subst (λ (r : Option Request). RequestAnswer r words files answer) (sym is) (stands.right (named_premise words wish files is premise));
-      bad_file = subst (λ (r : Option Request). (answer.status ≡ 3) ↔ IsBadFile r files) (sym is) stands.bad_file;
+      stood = subst (λ (r : Option Request). MayStandAsked r shelf files) (sym is) (stand_read wish shelf stands.bytes stands.stood);
+      right = λ premise.
+          let prime_or_none = subst (λ (b : List ℕ). ModuliArePrime ⊎ IsNoJob (task_of wish) b) same (named_premise words wish files is premise) in
+          subst (λ (r : Option Request). RequestAnswer r words files answer) (sym is) (subst (λ (b : List ℕ). FileAnswer (task_of wish) b answer) (sym same) (stands.right prime_or_none));
+      bad_file = subst (λ (r : Option Request). (answer.status ≡ 3) ↔ IsBadFile r files) (sym is) (subst (λ (b : List ℕ). (answer.status ≡ 3) ↔ IsNoJob (task_of wish) b) (sym same) stands.bad_file);
     }
 
 -- words that ask for nothing have the answer that tells their place, whatever the shelf has
@@ -170,7 +196,7 @@ bad_status what need bytes line kind status read other refused is = (λ three. r
 
 -- the law of files that are learned, which is another's to prove
 pub record Law : Type 0 where
-  pub answered : (words : List (List ℕ)) (wish : Request) (files : Files) (form : FileForm) (learned : List GraphLearned) (answer : Answer) → asked words ≡ Some wish → IsLearned (task_of wish) (files (file_of wish)) form learned
+  pub answered : (words : List (List ℕ)) (wish : Request) (files : Files) (form : FileForm) (learned : List GraphLearned) (answer : Answer) → asked words ≡ Some wish → IsLearned (task_of wish) (bytes_of wish files) form learned
       → RunAnswer words files answer → LearnedAnswer (task_of wish) form learned answer
 
 -- the right answer of a file that is learned is that of what was learned
@@ -178,7 +204,24 @@ pub learned_answer : (law : Law) (words : List (List ℕ)) (shelf : ShelfView) (
     → LearnedAnswer (task_of file.wish) file.form file.learned answer
 learned_answer law words shelf answer right prime file =
     let wish = file.wish in
-    let bytes = right.files (file_of wish) in
+    let bytes = bytes_of wish right.files in
     let stood : AllMayStand shelf right.files (names_read wish) = subst (λ (r : Option Request). MayStandAsked r shelf right.files) file.asks right.stood in
-    let same : file.bytes ≡ bytes = subst (λ (told : Option (Option (List ℕ))). MayStand told bytes) file.stands stood.0 in
+    let same : file.bytes ≡ bytes = subst (λ (told : Option (Option (List ℕ))). MayStand told bytes) file.stands (works_on_read wish shelf right.files stood) in
     law.answered words wish right.files file.form file.learned answer file.asks (subst (λ bs. IsLearned (task_of wish) bs file.form file.learned) same file.is) (right.right (inl prime))
+
+-- the demo has the answer of its bytes, however many they are
+pub demo_long : (what : Task) (bytes : List ℕ) (answer : Answer) → most_bytes < length bytes → answer ≡ long_answer → StandsAnswered what (Some (Some bytes)) answer
+demo_long what bytes answer many same = record {
+  bytes = bytes;
+  stood = refl;
+  right = λ premise. of_many what bytes answer many same;
+  bad_file = (λ is. inl many, λ bad. ap (λ (a : Answer). a.status) same);
+}
+
+demo_short : (what : Task) (bytes : List ℕ) (answer : Answer) → length bytes ≤ most_bytes → (ModuliArePrime ⊎ HasBadLine what bytes → ShortAnswer what bytes answer) → (answer.status ≡ 3) ↔ HasBadLine what bytes → StandsAnswered what (Some (Some bytes)) answer
+demo_short what bytes answer few right bad = short_file what (Some (Some bytes)) bytes answer refl few right bad
+
+pub demo_replied : {E : Type 0} (result : Result Reply E) (what : Task) (bytes demo : List ℕ) → bytes ≡ demo → length bytes ≤ most_bytes → IfOk result (λ reply. ModuliArePrime ⊎ HasBadLine what bytes → ShortAnswer what bytes (answer_of reply))
+    → IfOk result (λ reply. (code_of reply.status ≡ 3) ↔ HasBadLine what bytes) → IfOk result (λ reply. StandsAnswered what (Some (Some demo)) (answer_of reply))
+demo_replied (Ok reply) what bytes demo same few right bad = subst (λ (b : List ℕ). StandsAnswered what (Some (Some b)) (answer_of reply)) same (demo_short what bytes (answer_of reply) few right bad)
+demo_replied (Err error) what bytes demo same few right bad = tt

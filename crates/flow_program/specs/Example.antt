@@ -12,9 +12,9 @@ use Rattle.reconstruction.specs.Headline.{Prints}
 use Rattle.flow_program.specs.Answer.{Answer}
 use Rattle.flow_program.specs.Jobs.{IsLearned}
 use Rattle.flow_program.specs.Outside.{AsksFunctions}
-use Rattle.flow_program.specs.Run.{Files, RunAnswer}
+use Rattle.flow_program.specs.Run.{Files, RunAnswer, bytes_of}
 use Rattle.flow_program.specs.Tasks.{task_of}
-use Rattle.flow_program.specs.Words.{Request, asked, file_of}
+use Rattle.flow_program.specs.Words.{Request, asked}
 
 -- to reconstruct the functions of one file
 abbrev pub example_words : List (List ℕ)
@@ -44,7 +44,7 @@ pub record Exhibits (words : List (List ℕ)) (files : Files) : Type 0 where
   pub functions : AsksFunctions wish
   pub form : FileForm
   pub learned : List GraphLearned
-  pub is_learned : IsLearned (task_of wish) (files (file_of wish)) form learned
+  pub is_learned : IsLearned (task_of wish) (bytes_of wish files) form learned
   pub taken : Modulus → Taken
   pub are_taken : AreTaken (functions_of form learned) taken
   pub place : ℕ

@@ -1,21 +1,23 @@
 -- The answer of a file that is read, and of the graphs and points that it says.
-use Rattle.std.specs.Prelude.{◌≡◌, ℕ, ◌<◌, ◌≤◌, List, [], length, slice_get, Some, MatchBool, nat_lt, ◌⊎◌, codes}
+use Rattle.std.specs.Prelude.{◌≡◌, ℕ, ◌<◌, ◌≤◌, Bool, true, false, List, [], length, slice_get, Some, MatchBool, nat_lt, ◌⊎◌, codes}
 use Rattle.prime_field.specs.Modulus.{value_of}
 use Rattle.graph_file.specs.declared.error.FileKind.{FileKind}
 use Rattle.graph_file.specs.declared.graph.Graph.{Graph}
 use Rattle.graph_file.specs.File.{IsFirstBad, IsGoodFile}
-use Rattle.graph_file.specs.Says.{FileForm, Says}
+use Rattle.graph_file.specs.Says.{FileForm, Says, grid_of}
 use Rattle.graph_eval.specs.declared.learned.GraphLearned.{GraphLearned}
 use Rattle.graph_eval.specs.GraphValue.{main_number}
 use Rattle.graph_eval.specs.Learned.{sets_of}
 use Rattle.learn_phase.specs.LearnedSets.{BreaksLength, LearnedSets, Learns, Lesson, NoPoint}
+use Rattle.ray_grid.specs.Grid.{point_count}
+use Rattle.output_result.specs.Texts.{Report, results_text}
 use Rattle.reconstruction.specs.Form.{functions_of}
-use Rattle.reconstruction.specs.Functions.{Findings, Reconstructs}
+use Rattle.reconstruction.specs.Functions.{AreReported, Findings, Functions, Reconstructs}
 use Rattle.flow_program.specs.declared.task.Task.{Task}
 use Rattle.flow_program.specs.declared.task.Task.TheVariants as task
 use Rattle.flow_program.specs.Answer.{Answer, refusal}
 use Rattle.flow_program.specs.Lessons.{lessons}
-use Rattle.flow_program.specs.Reconstructed.{findings_answer}
+use Rattle.flow_program.specs.Reconstructed.{Telling, demo_text, findings_answer, no_reports}
 use Rattle.flow_program.specs.Refusals.{file_text, length_text, no_point_text, told_list}
 use Rattle.flow_program.specs.Sampled.{SamplesTo}
 use Rattle.flow_program.specs.Tasks.{need_of}
@@ -24,12 +26,27 @@ use Rattle.flow_program.specs.Tasks.{need_of}
 abbrev pub success : List ℕ → Answer
 success text = record { status = 0; out = text; err = [] }
 
+-- the reports that are told of findings: how the least pairs are found where that is asked for, and nothing otherwise
+abbrev pub AreReports : Bool → Functions → Findings → (ℕ → Report) → Type 0
+AreReports true job findings reports = AreReported job findings reports
+AreReports false job findings reports = reports ≡ no_reports
+
+-- what is found of the outputs as functions, told so, with reports where they are asked for
+pub record TellsFindings (asked : Bool) (telling : Telling) (form : FileForm) (learned : List GraphLearned) (answer : Answer) : Type 0 where
+  pub findings : Findings
+  pub are : Reconstructs (functions_of form learned) findings
+  pub reports : ℕ → Report
+  pub are_reports : AreReports asked (functions_of form learned) findings reports
+  pub told : answer ≡ findings_answer telling (slice_get form.graphs (main_number form.graphs)) reports findings
+
 -- what is answered of graphs that are all learned: the lines of the points, what was learned, or what is found of the outputs
--- as functions
+-- as functions, a line for each, with a report where it is asked for; of the demo what it is made of, and the line of its first
+-- output
 abbrev pub LearnedAnswer : Task → FileForm → List GraphLearned → Answer → Type 0
 LearnedAnswer (task.Sample modulus) form learned answer = (text : List ℕ) × SamplesTo (value_of modulus) form.graphs (sets_of learned) form.points text × (answer ≡ success text)
 LearnedAnswer task.Learn form learned answer = answer ≡ success (lessons form.graphs learned)
-LearnedAnswer task.Reconstruct form learned answer = (findings : Findings) × Reconstructs (functions_of form learned) findings × (answer ≡ findings_answer (slice_get form.graphs (main_number form.graphs)) findings)
+LearnedAnswer (task.Reconstruct report) form learned answer = TellsFindings report results_text form learned answer
+LearnedAnswer (task.Demo n) form learned answer = TellsFindings false (demo_text n (point_count (grid_of form))) form learned answer
 
 -- status 4 with a text on the graph that has this number
 pub record IsUnlearned (graphs : List Graph) (number : ℕ) (text : Graph → List ℕ) (answer : Answer) : Type 0 where

@@ -1,7 +1,10 @@
 pub mod Answer
+pub mod Demo
 pub mod Example
+pub mod First
 pub mod Jobs
 pub mod Lessons
+pub mod Lines
 pub mod Outside
 pub mod Parsed
 pub mod Reconstructed

@@ -7,9 +7,10 @@ use Rattle.graph_file.specs.Says.{FileForm}
 use Rattle.graph_eval.specs.declared.learned.GraphLearned.{GraphLearned}
 use Rattle.reconstruction.specs.Form.{functions_of}
 use Rattle.reconstruction.specs.Functions.{Functions}
-use Rattle.flow_program.specs.Words.{Request, Sample, Learn, Reconstruct, asked, file_of, names_read}
+use Rattle.flow_program.specs.Words.{Request, Sample, Learn, Reconstruct, Demo, asked, file_of, names_read}
 use Rattle.flow_program.specs.Tasks.{task_of}
 use Rattle.flow_program.specs.Answer.{Answer}
+use Rattle.flow_program.specs.Demo.{demo_bytes}
 use Rattle.flow_program.specs.Jobs.{FileAnswer, IsLearned, IsNoJob}
 use Rattle.flow_program.specs.Run.{Files, IsBadFile, ModuliArePrime, Premise, RunAnswer}
 use Rattle.flow_program.specs.declared.task.Task.{Task}
@@ -55,12 +56,19 @@ pub record IsRightAnswer (words : List (List ℕ)) (shelf : ShelfView) (answer :
   pub right : Premise words files → RunAnswer words files answer
   pub bad_file : (answer.status ≡ 3) ↔ IsBadFile (asked words) files
 
+-- what is told of the bytes that a request works on: what the shelf tells of its file; those of the demo are told
+abbrev pub told_of : Request → ShelfView → Option (Option (List ℕ))
+told_of (Sample file _ second) shelf = shelf.files file
+told_of (Learn file) shelf = shelf.files file
+told_of (Reconstruct file _ report) shelf = shelf.files file
+told_of (Demo n _) shelf = Some (Some (demo_bytes n))
+
 -- the file that is asked for is there, and all its graphs are learned
 pub record IsLearnable (words : List (List ℕ)) (shelf : ShelfView) : Type 0 where
   pub wish : Request
   pub asks : asked words ≡ Some wish
   pub bytes : List ℕ
-  pub stands : shelf.files (file_of wish) ≡ Some (Some bytes)
+  pub stands : told_of wish shelf ≡ Some (Some bytes)
   pub form : FileForm
   pub learned : List GraphLearned
   pub is : IsLearned (task_of wish) bytes form learned
@@ -71,14 +79,29 @@ functions_in words shelf file = functions_of file.form file.learned
 
 -- functions are asked for, or else they are not
 abbrev pub AsksFunctions : Request → Type 0
-AsksFunctions (Sample file second) = ⊥
+AsksFunctions (Sample file _ second) = ⊥
 AsksFunctions (Learn file) = ⊥
-AsksFunctions (Reconstruct file) = ⊤
+AsksFunctions (Reconstruct file _ report) = ⊤
+AsksFunctions (Demo n _) = ⊤
 
 abbrev pub AsksNoFunctions : Request → Type 0
-AsksNoFunctions (Sample file second) = ⊤
+AsksNoFunctions (Sample file _ second) = ⊤
 AsksNoFunctions (Learn file) = ⊤
-AsksNoFunctions (Reconstruct file) = ⊥
+AsksNoFunctions (Reconstruct file _ report) = ⊥
+AsksNoFunctions (Demo n _) = ⊥
+
+-- a line for each function is asked for, or the demo is, whose fifth line tells its first function
+abbrev pub AsksLines : Request → Type 0
+AsksLines (Sample file _ second) = ⊥
+AsksLines (Learn file) = ⊥
+AsksLines (Reconstruct file _ report) = ⊤
+AsksLines (Demo n _) = ⊥
+
+abbrev pub AsksDemo : Request → Type 0
+AsksDemo (Sample file _ second) = ⊥
+AsksDemo (Learn file) = ⊥
+AsksDemo (Reconstruct file _ report) = ⊥
+AsksDemo (Demo n _) = ⊤
 
 -- the sink tells what it holds, and this text stands behind what it held before
 pub record Wrote (old new : SinkView) (text : List ℕ) : Type 0 where
@@ -111,10 +134,15 @@ pub record TellsAnswerFront (words : List (List ℕ)) (old new : Outside) : Type
   pub out_told : AddsFront old.out new.out answer.out
   pub err_told : AddsFront old.err new.err answer.err
 
+-- the shelf's count of the file of this name rose, where there is a name
+abbrev pub NameRose : Option (List ℕ) → ShelfView → ShelfView → Type 0
+NameRose None old new = ⊥
+NameRose (Some name) old new = Rose (old.faults name) (new.faults name)
+
 -- the shelf's count of the file that is asked for rose
 abbrev pub FileRose : Option Request → ShelfView → ShelfView → Type 0
 FileRose None old new = ⊥
-FileRose (Some wish) old new = Rose (old.faults (file_of wish)) (new.faults (file_of wish))
+FileRose (Some wish) old new = NameRose (file_of wish) old new
 
 -- the count of out, or that of err, rose
 abbrev pub SinkRose : Outside → Outside → Type 0

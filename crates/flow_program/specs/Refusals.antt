@@ -9,7 +9,7 @@ use Rattle.graph_file.specs.declared.graph.Graph.{Graph}
 use Rattle.graph_file.specs.declared.graph.Source.{Source}
 use Rattle.graph_file.specs.declared.graph.Source.TheVariants as source
 use Rattle.graph_eval.specs.declared.outcome.Cause.{Cause}
-use Rattle.graph_eval.specs.declared.outcome.Cause.TheVariants.{Division, System}
+use Rattle.graph_eval.specs.declared.outcome.Cause.TheVariants.{Division, System, Degree, Pole}
 use Rattle.graph_eval.specs.declared.outcome.Singular.{Singular}
 
 -- what is wrong with an expression
@@ -64,6 +64,8 @@ told_list (source.Node output) node = source.Node node
 abbrev pub cause_word : Cause → List ℕ
 cause_word Division = codes "division"
 cause_word System = codes "system"
+cause_word Degree = codes "degree"
+cause_word Pole = codes "pole"
 
 -- a node without a value, by its place among these names, and the cause
 abbrev pub singular_node : List (List ℕ) → ℕ → Cause → List ℕ

@@ -4,8 +4,9 @@ use Rattle.std.specs.Fmt.{decimal}
 use Rattle.prime_field.specs.Modulus.{value_of}
 use Rattle.prime_field.specs.Residue.{IsPrime}
 use Rattle.prime_field.specs.declared.Modulus.TheVariants.{First, Second}
-use Rattle.flow_program.specs.Words.{Request, asked, file_of, IsBadAt}
+use Rattle.flow_program.specs.Words.{Request, Sample, Learn, Reconstruct, Demo, asked, IsBadAt}
 use Rattle.flow_program.specs.Answer.{Answer, refusal}
+use Rattle.flow_program.specs.Demo.{demo_bytes}
 use Rattle.flow_program.specs.Jobs.{FileAnswer, IsNoJob}
 use Rattle.flow_program.specs.Tasks.{task_of}
 
@@ -18,10 +19,17 @@ pub record ModuliArePrime : Type 0 where
 abbrev pub Files : Type 0
 Files = List ℕ → List ℕ
 
--- a file is asked for, and its bytes are no job for that
+-- the bytes that a request works on: those under the name of its file, or those of the demo
+abbrev pub bytes_of : Request → Files → List ℕ
+bytes_of (Sample file _ second) files = files file
+bytes_of (Learn file) files = files file
+bytes_of (Reconstruct file _ report) files = files file
+bytes_of (Demo n _) files = demo_bytes n
+
+-- something is asked for, and the bytes are no job for that
 abbrev pub IsBadFile : Option Request → Files → Type 0
 IsBadFile None files = ⊥
-IsBadFile (Some wish) files = IsNoJob (task_of wish) (files (file_of wish))
+IsBadFile (Some wish) files = IsNoJob (task_of wish) (bytes_of wish files)
 
 -- What is supposed of these words and files where an answer is said to be right: that both moduli are prime; or nothing, where
 -- the words ask for nothing or the bytes are no job.
@@ -35,7 +43,7 @@ words_answer k = refusal 2 (codes "flow: bad words at " ++ decimal k ++ codes "\
 -- the answer of what is asked for, on these words and files
 abbrev pub RequestAnswer : Option Request → List (List ℕ) → Files → Answer → Type 0
 RequestAnswer None words files answer = (k : ℕ) × IsBadAt words k × (answer ≡ words_answer k)
-RequestAnswer (Some wish) words files answer = FileAnswer (task_of wish) (files (file_of wish)) answer
+RequestAnswer (Some wish) words files answer = FileAnswer (task_of wish) (bytes_of wish files) answer
 
 abbrev pub RunAnswer : List (List ℕ) → Files → Answer → Type 0
 RunAnswer words files answer = RequestAnswer (asked words) words files answer

@@ -4,14 +4,15 @@ use Rattle.prime_field.specs.declared.Modulus.{Modulus}
 use Rattle.good_attempt.specs.Attempts.{Taken}
 use Rattle.reconstruction.specs.Functions.{AllReduceWell, AreTaken}
 use Rattle.reconstruction.specs.Headline.{PrintedTaken, PrintedUnique, QuotientPrinted}
+use Rattle.flow_program.specs.First.{FirstUnique}
 use Rattle.flow_program.specs.declared.status.Status.{Status}
 use Rattle.flow_program.specs.declared.status.Status.TheVariants as status
 use Rattle.flow_program.specs.declared.words.WordsError.{WordsError}
 use Rattle.flow_program.specs.declared.words.WordsError.TheVariants as error
 use Rattle.flow_program.specs.Status.{code_of}
-use Rattle.flow_program.specs.Words.{Request, asked, file_of}
+use Rattle.flow_program.specs.Words.{Request, asked}
 use Rattle.flow_program.specs.Run.{ModuliArePrime, words_answer}
-use Rattle.flow_program.specs.Outside.{AsksFunctions, AsksNoFunctions, Outside, BreaksOff, FileRose, IsLearnable, NoDeviceFailed, SinkRose, Tells, TellsOnly, Wrote, functions_in}
+use Rattle.flow_program.specs.Outside.{AsksDemo, AsksFunctions, AsksLines, AsksNoFunctions, Outside, BreaksOff, FileRose, IsLearnable, NoDeviceFailed, SinkRose, Tells, TellsOnly, Wrote, functions_in, told_of}
 
 -- on these words a run may lead from one state of the devices to another, and end so
 pub record Runs (words : List (List ℕ)) (before after : Outside) (end : Status) : Type 0 where
@@ -33,18 +34,21 @@ pub record Runs (words : List (List ℕ)) (before after : Outside) (end : Status
   pub found : ModuliArePrime → (file : IsLearnable words before.shelf) → AsksFunctions file.wish → NoDeviceFailed words before after →
       (taken : Modulus → Taken) → AreTaken (functions_in words before.shelf file) taken → AllReduceWell (functions_in words before.shelf file) taken →
       (end ≡ status.Done) ⊎ (end ≡ status.NoMemory)
-  -- Where both moduli are prime, functions are asked for and the run tells results: an output that is a quotient within the
+  -- Where both moduli are prime, a line for each function is asked for and the run tells results: an output that is a quotient within the
   -- bounds and reduces well is printed as that quotient.
-  pub quotients : ModuliArePrime → (file : IsLearnable words before.shelf) → AsksFunctions file.wish → code_of end ≤ 1 →
+  pub quotients : ModuliArePrime → (file : IsLearnable words before.shelf) → AsksLines file.wish → code_of end ≤ 1 →
       (text : List ℕ) → Wrote before.out after.out text → QuotientPrinted (functions_in words before.shelf file) text
   -- And every pair within the bounds that has the samples of a printed function equals it modulo each.
-  pub unique : ModuliArePrime → (file : IsLearnable words before.shelf) → AsksFunctions file.wish → code_of end ≤ 1 →
+  pub unique : ModuliArePrime → (file : IsLearnable words before.shelf) → AsksLines file.wish → code_of end ≤ 1 →
       (text : List ℕ) → Wrote before.out after.out text → PrintedUnique (functions_in words before.shelf file) text
   -- A printed function has samples: both moduli have a good attempt.
-  pub taken : ModuliArePrime → (file : IsLearnable words before.shelf) → AsksFunctions file.wish → code_of end ≤ 1 →
+  pub taken : ModuliArePrime → (file : IsLearnable words before.shelf) → AsksLines file.wish → code_of end ≤ 1 →
       (text : List ℕ) → Wrote before.out after.out text → PrintedTaken (functions_in words before.shelf file) text
+  -- So it is with the one function that the demo prints.
+  pub first : ModuliArePrime → (file : IsLearnable words before.shelf) → AsksDemo file.wish → code_of end ≤ 1 →
+      (text : List ℕ) → Wrote before.out after.out text → FirstUnique (functions_in words before.shelf file) text
   -- Where nothing stands under the file that is asked for, there is no answer.
-  pub missing : (wish : Request) → asked words ≡ Some wish → before.shelf.files (file_of wish) ≡ Some None → 6 ≤ code_of end
+  pub missing : (wish : Request) → asked words ≡ Some wish → told_of wish before.shelf ≡ Some None → 6 ≤ code_of end
   -- Up to 5, status 2 comes exactly with words that ask for nothing.
   pub bad_words : code_of end ≤ 5 → (end ≡ status.BadWords) ↔ (asked words ≡ None)
   -- Status 6 comes only where the file's count rose; out gets nothing.

@@ -5,9 +5,9 @@ ghost use Rattle.graph_file.specs.Says.{FileForm};
 ghost use Rattle.graph_eval.specs.declared.learned.GraphLearned.{GraphLearned};
 ghost use Rattle.flow_program.specs.Answer.{Answer};
 ghost use Rattle.flow_program.specs.Jobs.{IsLearned, LearnedAnswer};
-ghost use Rattle.flow_program.specs.Run.{Files, RunAnswer};
+ghost use Rattle.flow_program.specs.Run.{Files, RunAnswer, bytes_of};
 ghost use Rattle.flow_program.specs.Tasks.{task_of};
-ghost use Rattle.flow_program.specs.Words.{Request, asked, file_of};
+ghost use Rattle.flow_program.specs.Words.{Request, asked};
 
 use graph_eval::one_outcome;
 use graph_file::{no_fault, one_fault, one_form};
@@ -29,7 +29,7 @@ pub fn one_answer()
 /// Where admitted words name a file that is a job whose graphs are learned, the answer is that of what was learned.
 pub fn learned_files_are_answered()
     ensures { (words : List (List ℕ)) (wish : Request) (files : Files) (form : FileForm) (learned : List GraphLearned) (answer : Answer) → asked words ≡ Some wish →
-        IsLearned (task_of wish) (files (file_of wish)) form learned → RunAnswer words files answer → LearnedAnswer (task_of wish) form learned answer }
+        IsLearned (task_of wish) (bytes_of wish files) form learned → RunAnswer words files answer → LearnedAnswer (task_of wish) form learned answer }
 {
     one_lesson();
     no_fault();

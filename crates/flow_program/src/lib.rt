@@ -2,10 +2,13 @@
 #![tactic(auto)]
 
 mod arguments;
+mod demo;
 mod example;
 mod functions;
 mod laws;
 mod lessons;
+mod line;
+mod manner;
 mod printed;
 mod refusals;
 mod reply;
@@ -13,9 +16,11 @@ mod sampling;
 mod status;
 mod task;
 mod top;
+mod verb;
 mod words;
 
 pub use arguments::words_of;
+pub use demo::demo_file;
 pub use example::worked_example;
 pub use laws::{learned_files_are_answered, one_answer};
 pub use status::Status;

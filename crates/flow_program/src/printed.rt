@@ -16,6 +16,18 @@ pub(crate) fn push_number(text: &mut Vec<u8>, number: u64) -> Result<(), AllocEr
     Ok(())
 }
 
+/// Writes the number in decimal behind the text, and these bytes before it.
+pub(crate) fn push_numbered(
+    text: &mut Vec<u8>,
+    before: &[u8],
+    number: u64,
+) -> Result<(), AllocError>
+    ensures { OnOk result (text.new.items ≡ text.old.items ++ (before.now ++ decimal number)) }
+{
+    text.extend_from_slice(before)?;
+    push_number(text, number)
+}
+
 /// Writes residues in decimal behind the text, with a space before each.
 fn push_further(text: &mut Vec<u8>, residues: &[u64]) -> Result<(), AllocError>
     ensures { OnOk result (text.new.items ≡ text.old.items ++ flat_map (λ residue. 32 ∷ decimal residue) residues.now) }

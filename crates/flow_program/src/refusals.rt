@@ -121,6 +121,8 @@ fn cause_word(cause: Cause) -> &'static [u8]
     match cause {
         Cause::Division => b"division",
         Cause::System => b"system",
+        Cause::Degree => b"degree",
+        Cause::Pole => b"pole",
     }
 }
 

@@ -10,9 +10,10 @@ ghost use Rattle.flow_program.specs.Reply.{TellsWhy, answer_of};
 ghost use Rattle.flow_program.specs.Run.{ModuliArePrime, words_answer};
 ghost use Rattle.flow_program.specs.Status.{IsFileStatus, IsJobStatus, code_of};
 ghost use Rattle.flow_program.specs.Tasks as spec;
+ghost use Rattle.flow_program.specs.Words.{IsCount};
 
 use crate::FILE_LIMIT;
-use crate::functions::reply_to_functions;
+use crate::functions::{reply_to_demo, reply_to_functions};
 use crate::lessons::lessons;
 use crate::refusals::{push_file_text, push_length_text, push_no_point_text, told_list};
 use crate::sampling::sample;
@@ -21,7 +22,9 @@ use crate::task::{Task, need_of};
 use graph_eval::{Learned, Singular};
 use graph_file::{FileError, FileKind, Graph, Job, Source, no_fault, read_graphs};
 use learn_phase::{LearnError, learn};
+use parallel_sampler::Gate;
 use std::alloc::{AllocError, Global};
+use std::thread::Threads;
 
 /// A status, and all that goes to out and to err with it.
 #[derive(Debug, Drop)]
@@ -135,39 +138,65 @@ fn success_of(alloc: Global, out: Vec<u8>) -> Reply
 }
 
 /// The reply to a job whose graphs are all learned.
-fn reply_to_learned(
+fn reply_to_learned<G: Gate, R: Threads + Sync>(
+    rt: &R,
     alloc: Global,
+    workers: u32,
     job: &Job,
     learned: &Learned,
     task: Task,
+    gate: &G,
 ) -> Result<Reply, AllocError>
+    requires workers { IsCount workers }
     requires need { job.now.need ≡ spec.need_of task }
     requires fits { FitsJob job.now.need (form job.now) (Ok learned.now) }
     ensures answer { IfOk result (λ reply. ModuliArePrime → LearnedAnswer task (form job.now) learned.now (answer_of reply)) }
     ensures status { IfOk result (λ reply. IsJobStatus reply.status) }
 {
     match task {
-        Task::Sample(modulus) => Ok(success_of(alloc, sample(alloc, job, learned, modulus)?)),
+        Task::Sample(modulus) => {
+            let lines = sample(rt, alloc, workers, job, learned, modulus, gate)?;
+            Ok(success_of(alloc, lines))
+        }
         Task::Learn => Ok(success_of(alloc, lessons(alloc, job, learned)?)),
-        Task::Reconstruct => reply_to_functions(alloc, job, learned),
+        Task::Reconstruct { report } => {
+            reply_to_functions(rt, alloc, workers, job, learned, report, gate)
+        }
+        Task::Demo(n) => reply_to_demo(rt, alloc, workers, job, learned, n, gate),
     }
 }
 
 /// The reply to a job with which this is to be done.
-fn reply_to_job(alloc: Global, job: &Job, task: Task) -> Result<Reply, AllocError>
-    requires { job.now.need ≡ spec.need_of task }
+fn reply_to_job<G: Gate, R: Threads + Sync>(
+    rt: &R,
+    alloc: Global,
+    workers: u32,
+    job: &Job,
+    task: Task,
+    gate: &G,
+) -> Result<Reply, AllocError>
+    requires workers { IsCount workers }
+    requires need { job.now.need ≡ spec.need_of task }
     ensures answer { IfOk result (λ reply. ModuliArePrime → JobAnswer task (form job.now) (answer_of reply)) }
     ensures status { IfOk result (λ reply. IsJobStatus reply.status) }
 {
     match learn(alloc, job) {
-        Ok(learned) => reply_to_learned(alloc, job, &learned, task),
+        Ok(learned) => reply_to_learned(rt, alloc, workers, job, &learned, task, gate),
         Err(why) => Ok(reply_to_unlearned(alloc, job, &why)?),
     }
 }
 
-/// The reply to a file of these bytes, with which this is to be done.
-pub(crate) fn reply_to_file(alloc: Global, bytes: &[u8], task: Task) -> Result<Reply, AllocError>
-    requires { length bytes.now ≤ FILE_LIMIT }
+/// The reply to a file of these bytes, with which this is to be done by so many workers.
+pub(crate) fn reply_to_file<G: Gate, R: Threads + Sync>(
+    rt: &R,
+    alloc: Global,
+    workers: u32,
+    bytes: &[u8],
+    task: Task,
+    gate: &G,
+) -> Result<Reply, AllocError>
+    requires workers { IsCount workers }
+    requires few { length bytes.now ≤ FILE_LIMIT }
     ensures answer { IfOk result (λ reply. ModuliArePrime ⊎ HasBadLine task bytes.now → ShortAnswer task bytes.now (answer_of reply)) }
     ensures bad_line { IfOk result (λ reply. (code_of reply.status ≡ 3) ↔ HasBadLine task bytes.now) }
     ensures status { IfOk result (λ reply. IsFileStatus reply.status) }
@@ -175,7 +204,7 @@ pub(crate) fn reply_to_file(alloc: Global, bytes: &[u8], task: Task) -> Result<R
     // That a file with which nothing is wrong has no bad line follows from this law.
     no_fault();
     match read_graphs(alloc, bytes, need_of(task)) {
-        Ok(job) => Ok(reply_to_job(alloc, &job, task)?),
+        Ok(job) => Ok(reply_to_job(rt, alloc, workers, &job, task, gate)?),
         Err(FileError { line, kind }) => Ok(reply_to_bad_line(alloc, line, kind)?),
     }
 }

@@ -8,14 +8,16 @@ ghost use Rattle.graph_eval.specs.GraphValue.{Value, SingularAt};
 ghost use Rattle.graph_eval.specs.Learned.{Fits, outputs_of, sets_of};
 ghost use Rattle.flow_program.specs.Refusals.{node_names};
 ghost use Rattle.flow_program.specs.Sampled.{AddsRow, SamplesTo, outcome_line};
+ghost use Rattle.flow_program.specs.Words.{IsCount};
 
 use crate::printed::push_residues;
 use crate::refusals::push_singular;
 use graph_eval::{Learned, Singular, main_graph};
 use graph_file::{Graph, Job};
-use parallel_sampler::Samples;
+use parallel_sampler::{Crew, Gate, Samples};
 use prime_field::Modulus;
 use std::alloc::{AllocError, Global};
+use std::thread::Threads;
 
 /// Writes the line of a point at which the graph has these values behind the text.
 fn push_values(text: &mut Vec<u8>, graph: &Graph, values: &[u64]) -> Result<(), AllocError>
@@ -66,19 +68,25 @@ fn push_rows(text: &mut Vec<u8>, graph: &Graph, rows: &Samples) -> Result<(), Al
     Ok(())
 }
 
-/// The lines of the outcomes of the main graph at the job's points, in order.
-pub(crate) fn sample(
+/// The lines of the outcomes of the main graph at the job's points, in order, by so many workers.
+pub(crate) fn sample<G: Gate, R: Threads + Sync>(
+    rt: &R,
     alloc: Global,
+    workers: u32,
     job: &Job,
     learned: &Learned,
     modulus: Modulus,
+    gate: &G,
 ) -> Result<Vec<u8>, AllocError>
+    requires workers { IsCount workers }
     requires fits { Fits job.now.graphs learned.now }
     requires room { length job.now.points * outputs_of learned.now ≤ 1048576 }
     ensures { IfOk result (λ text. IsPrime (value_of modulus) → SamplesTo (value_of modulus) job.now.graphs (sets_of learned.now) job.now.points text.items) }
 {
     let graph = main_graph(job);
-    let rows = parallel_sampler::sample(alloc, job, learned, modulus, job.points.as_slice())?;
+    let points = job.points.as_slice();
+    let mut crew = Crew::new(alloc, job, learned, workers)?;
+    let rows = parallel_sampler::sample(rt, alloc, &mut crew, job, learned, modulus, points, gate)?;
     let mut text = Vec::new(alloc);
     push_rows(&mut text, graph, &rows)?;
     Ok(text)

@@ -6,15 +6,17 @@ ghost use Rattle.flow_program.specs.Tasks as spec;
 use graph_file::Need;
 use prime_field::Modulus;
 
-/// What is to be done with a file that is read.
+/// What is to be done with a file that is read, or with the demo.
 #[derive(Clone, Copy, Debug)]
 pub(crate) enum Task {
     /// The main graph is evaluated at each point, modulo this modulus.
     Sample(Modulus),
     /// The graphs are learned.
     Learn,
-    /// The outputs of the main graph are reconstructed as functions.
-    Reconstruct,
+    /// The outputs of the main graph are reconstructed as functions, with or without a report.
+    Reconstruct { report: bool },
+    /// So are those of the demo of this size.
+    Demo(u32),
 }
 
 /// The modulus that is asked for.
@@ -35,6 +37,6 @@ pub(crate) fn need_of(task: Task) -> Need
     match task {
         Task::Sample(_) => Need::Points,
         Task::Learn => Need::Learning,
-        Task::Reconstruct => Need::Functions,
+        Task::Reconstruct { report: _ } | Task::Demo(_) => Need::Functions,
     }
 }

@@ -1,13 +1,18 @@
 //! Whole runs over devices in memory.
 
 use crate::arguments::words_of;
+use crate::demo::demo_file;
 use crate::top::{refuse, run};
 use crate::words::WordsError;
 use flow_base::{MemShelf, MemSink};
+use parallel_sampler::OpenGate;
+use poly_maps::Point;
+use ray_grid::{Grid, attempt};
 use std::alloc::{AllocError, Global};
 use std::env::FillError;
 use std::rt::Env;
 use std::test::Fail;
+use std::thread::Threads;
 
 /// Two variables, one node of two quotients, one point.
 const QUOTIENTS: &str =
@@ -42,7 +47,12 @@ fn steady(file: &[u8]) -> Devices<'_> {
     }
 }
 
-fn run_on(alloc: Global, words: &[&str], devices: Devices<'_>) -> Result<Told, Fail> {
+fn run_on<R: AllocGlobal + Threads + Sync>(
+    rt: &R,
+    words: &[&str],
+    devices: Devices<'_>,
+) -> Result<Told, Fail> {
+    let alloc = rt.alloc();
     let mut asked = Vec::new(alloc);
     for word in words {
         asked.push(String::from_str(alloc, word)?)?;
@@ -60,7 +70,15 @@ fn run_on(alloc: Global, words: &[&str], devices: Devices<'_>) -> Result<Told, F
     let mut shelf = MemShelf::new(alloc, files, most, failing_reads);
     let mut out = MemSink::new(alloc, most, failing_writes)?;
     let mut err = MemSink::new(alloc, most, Vec::new(alloc))?;
-    let status = run(alloc, asked.as_slice(), &mut shelf, &mut out, &mut err);
+    let status = run(
+        rt,
+        alloc,
+        asked.as_slice(),
+        &mut shelf,
+        &mut out,
+        &mut err,
+        &OpenGate,
+    );
     Ok(Told {
         status: status.code(),
         out: Vec::from_slice(alloc, out.held())?,
@@ -74,9 +92,13 @@ fn is_told(told: &Told, status: u8, out: &str, err: &str) -> bool {
         && told.err.as_slice() == err.as_bytes()
 }
 
+fn is_same(told: &Told, other: &Told) -> bool {
+    told.status == other.status && told.out == other.out && told.err == other.err
+}
+
 #[test]
 fn samples_quotients_at_one_point(rt: HostRuntime) -> Result<(), Fail> {
-    let told = run_on(rt.alloc(), &["sample", "f"], steady(QUOTIENTS.as_bytes()))?;
+    let told = run_on(&rt, &["sample", "f"], steady(QUOTIENTS.as_bytes()))?;
     assert!(rt; is_told(&told, 0, RESIDUES, ""), "{told:?}");
     Ok(())
 }
@@ -85,7 +107,7 @@ fn samples_quotients_at_one_point(rt: HostRuntime) -> Result<(), Fail> {
 fn names_the_node_that_divides_by_zero(rt: HostRuntime) -> Result<(), Fail> {
     let file =
         "flow 1\ngraph main\ninput x y\nnode r eval input = x/(x+y) ; 1/y\noutput r\npoint 1 2305843009213693950\n";
-    let told = run_on(rt.alloc(), &["sample", "f"], steady(file.as_bytes()))?;
+    let told = run_on(&rt, &["sample", "f"], steady(file.as_bytes()))?;
     assert!(rt; is_told(&told, 0, "singular r division\n", ""), "{told:?}");
     Ok(())
 }
@@ -97,7 +119,7 @@ fn a_failing_second_write_leaves_the_first(rt: HostRuntime) -> Result<(), Fail> 
         failing_writes: &[2],
         ..steady(QUOTIENTS.as_bytes())
     };
-    let told = run_on(rt.alloc(), &["sample", "f"], devices)?;
+    let told = run_on(&rt, &["sample", "f"], devices)?;
     assert!(rt; is_told(&told, 7, "1537", ""), "{told:?}");
     Ok(())
 }
@@ -108,7 +130,7 @@ fn devices_of_one_byte_at_a_time_change_nothing(rt: HostRuntime) -> Result<(), F
         most: 1,
         ..steady(QUOTIENTS.as_bytes())
     };
-    let told = run_on(rt.alloc(), &["sample", "f"], devices)?;
+    let told = run_on(&rt, &["sample", "f"], devices)?;
     assert!(rt; is_told(&told, 0, RESIDUES, ""), "{told:?}");
     Ok(())
 }
@@ -125,7 +147,7 @@ fn a_missing_file_and_a_failing_read_are_read_faults(rt: HostRuntime) -> Result<
         ..steady(QUOTIENTS.as_bytes())
     };
     for devices in [missing, failing] {
-        let told = run_on(rt.alloc(), &["sample", "f"], devices)?;
+        let told = run_on(&rt, &["sample", "f"], devices)?;
         assert!(rt; is_told(&told, 6, "", "flow: read fault\n"), "{told:?}");
     }
     Ok(())
@@ -152,7 +174,7 @@ fn each_kind_of_node_gives_its_list(rt: HostRuntime) -> Result<(), Fail> {
     ];
     for (node, out) in cases {
         let file = with_node(rt.alloc(), node)?;
-        let told = run_on(rt.alloc(), &["sample", "f"], steady(file.as_bytes()))?;
+        let told = run_on(&rt, &["sample", "f"], steady(file.as_bytes()))?;
         assert!(rt; is_told(&told, 0, out, ""), "{node}: {told:?}");
     }
     Ok(())
@@ -162,7 +184,7 @@ fn each_kind_of_node_gives_its_list(rt: HostRuntime) -> Result<(), Fail> {
 fn the_second_modulus_is_asked_for(rt: HostRuntime) -> Result<(), Fail> {
     let cases: [&[&str]; 2] = [&["sample", "f", "--second"], &["sample", "--second", "f"]];
     for words in cases {
-        let told = run_on(rt.alloc(), words, steady(QUOTIENTS.as_bytes()))?;
+        let told = run_on(&rt, words, steady(QUOTIENTS.as_bytes()))?;
         assert!(rt;
             is_told(&told, 0, "6148914691236517189 4611686018427387892\n", ""),
             "{words:?}: {told:?}"
@@ -175,11 +197,11 @@ fn the_second_modulus_is_asked_for(rt: HostRuntime) -> Result<(), Fail> {
 fn what_the_output_does_not_rest_on_is_left_out(rt: HostRuntime) -> Result<(), Fail> {
     let unneeded =
         "flow 1\ngraph main\ninput x y\nnode r eval input = x/(x+y) ; 1/y\nnode u eval input = 1/0\noutput r\npoint 1 2\n";
-    let told = run_on(rt.alloc(), &["sample", "f"], steady(unneeded.as_bytes()))?;
+    let told = run_on(&rt, &["sample", "f"], steady(unneeded.as_bytes()))?;
     assert!(rt; is_told(&told, 0, RESIDUES, ""), "{told:?}");
     let input =
         "flow 1\ngraph main\ninput x y\nnode r eval input = 1/0\noutput input\npoint 1 2\npoint 3 4\n";
-    let told = run_on(rt.alloc(), &["sample", "f"], steady(input.as_bytes()))?;
+    let told = run_on(&rt, &["sample", "f"], steady(input.as_bytes()))?;
     assert!(rt; is_told(&told, 0, "1 2\n3 4\n", ""), "{told:?}");
     Ok(())
 }
@@ -223,7 +245,7 @@ fn systems_are_solved_over_what_was_learned(rt: HostRuntime) -> Result<(), Fail>
     ];
     for (exprs, system, points, out) in cases {
         let file = with_system(rt.alloc(), exprs, system, points)?;
-        let told = run_on(rt.alloc(), &["sample", "f"], steady(file.as_bytes()))?;
+        let told = run_on(&rt, &["sample", "f"], steady(file.as_bytes()))?;
         assert!(rt; is_told(&told, 0, out, ""), "{exprs:?}: {told:?}");
     }
     Ok(())
@@ -234,7 +256,7 @@ fn the_second_modulus_uses_what_was_learned_at_the_first(rt: HostRuntime) -> Res
     let file = with_system(rt.alloc(), "1 ; 2 ; x", "1 2", ["7 0", "0 7"])?;
     let out = "9223372036854775781 7 1 0\n9223372036854775781 0 1 0\n";
     for words in [["sample", "f", "--second"], ["sample", "--second", "f"]] {
-        let told = run_on(rt.alloc(), &words, steady(file.as_bytes()))?;
+        let told = run_on(&rt, &words, steady(file.as_bytes()))?;
         assert!(rt; is_told(&told, 0, out, ""), "{words:?}: {told:?}");
     }
     Ok(())
@@ -261,7 +283,7 @@ fn learning_tells_the_point_the_length_and_the_unknowns(rt: HostRuntime) -> Resu
         (QUOTIENTS, "graph main point none length 2\n"),
     ];
     for (file, out) in cases {
-        let told = run_on(rt.alloc(), &["learn", "f"], steady(file.as_bytes()))?;
+        let told = run_on(&rt, &["learn", "f"], steady(file.as_bytes()))?;
         assert!(rt; is_told(&told, 0, out, ""), "{file:?}: {told:?}");
     }
     Ok(())
@@ -285,7 +307,7 @@ fn learning_tells_the_needed_solvers_as_they_stand_in_the_file(
     ];
     for (list, out) in cases {
         let file = format!(in rt.alloc(); "{SYSTEMS}output {list}\n")?;
-        let told = run_on(rt.alloc(), &["learn", "f"], steady(file.as_bytes()))?;
+        let told = run_on(&rt, &["learn", "f"], steady(file.as_bytes()))?;
         assert!(rt; is_told(&told, 0, out, ""), "{list}: {told:?}");
     }
     Ok(())
@@ -297,7 +319,7 @@ fn a_graph_without_a_learning_point_is_told_with_its_points(rt: HostRuntime) -> 
     let err =
         "flow: graph main has no learning point\npoint 0 s system\npoint 1 s system\npoint 2 s system\npoint 3 s system\npoint 4 s system\npoint 5 s system\npoint 6 s system\npoint 7 s system\n";
     for command in ["learn", "sample"] {
-        let told = run_on(rt.alloc(), &[command, "f"], steady(file.as_bytes()))?;
+        let told = run_on(&rt, &[command, "f"], steady(file.as_bytes()))?;
         assert!(rt; is_told(&told, 4, "", err), "{command:?}: {told:?}");
     }
     Ok(())
@@ -309,10 +331,10 @@ const SPARSE: &str =
 
 #[test]
 fn a_sparse_system_is_learned_and_solved(rt: HostRuntime) -> Result<(), Fail> {
-    let learned = run_on(rt.alloc(), &["learn", "f"], steady(SPARSE.as_bytes()))?;
+    let learned = run_on(&rt, &["learn", "f"], steady(SPARSE.as_bytes()))?;
     let out = "graph main point 0 length 2\nsolver s independent 3\n";
     assert!(rt; is_told(&learned, 0, out, ""), "{learned:?}");
-    let sampled = run_on(rt.alloc(), &["sample", "f"], steady(SPARSE.as_bytes()))?;
+    let sampled = run_on(&rt, &["sample", "f"], steady(SPARSE.as_bytes()))?;
     assert!(rt; is_told(&sampled, 0, "1 0\n", ""), "{sampled:?}");
     Ok(())
 }
@@ -337,7 +359,7 @@ fn each_row_of_a_sparse_system_decides_at_each_point(rt: HostRuntime) -> Result<
         let file = format!(in rt.alloc();
             "flow 1\ngraph main\ninput x\nnode c eval input = {exprs}\nnode s sparse c 1\nrow 0 1\nrow 0 1\noutput s\npoint {first}\npoint {second}\n"
         )?;
-        let told = run_on(rt.alloc(), &["sample", "f"], steady(file.as_bytes()))?;
+        let told = run_on(&rt, &["sample", "f"], steady(file.as_bytes()))?;
         assert!(rt; is_told(&told, 0, out, ""), "{exprs:?}: {told:?}");
     }
     Ok(())
@@ -357,7 +379,7 @@ fn rows_are_refused_with_their_kind(rt: HostRuntime) -> Result<(), Fail> {
         let file = format!(in rt.alloc();
             "flow 1\ngraph main\ninput x\nnode c eval input = 1 ; x\nnode s sparse c 1\n{lines}"
         )?;
-        let told = run_on(rt.alloc(), &["sample", "f"], steady(file.as_bytes()))?;
+        let told = run_on(&rt, &["sample", "f"], steady(file.as_bytes()))?;
         assert!(rt; is_told(&told, 3, "", err), "{lines:?}: {told:?}");
     }
     Ok(())
@@ -414,7 +436,7 @@ fn the_first_bad_line_is_told_with_its_kind(rt: HostRuntime) -> Result<(), Fail>
         ),
     ];
     for (file, err) in cases {
-        let told = run_on(rt.alloc(), &["sample", "f"], steady(file.as_bytes()))?;
+        let told = run_on(&rt, &["sample", "f"], steady(file.as_bytes()))?;
         assert!(rt; is_told(&told, 3, "", err), "{file:?}: {told:?}");
     }
     Ok(())
@@ -472,8 +494,99 @@ fn outputs_are_reconstructed_as_functions(rt: HostRuntime) -> Result<(), Fail> {
     ];
     for (exprs, lines, status, out) in cases {
         let file = with_bounds(rt.alloc(), exprs, lines)?;
-        let told = run_on(rt.alloc(), &["reconstruct", "f"], steady(file.as_bytes()))?;
+        let told = run_on(&rt, &["reconstruct", "f"], steady(file.as_bytes()))?;
         assert!(rt; is_told(&told, status, out, ""), "{exprs}: {told:?}");
+    }
+    Ok(())
+}
+
+#[test]
+fn a_report_tells_how_each_function_was_found(rt: HostRuntime) -> Result<(), Fail> {
+    let cases = [
+        ("x - x", "bounds all num 1 den 1", 0, "f1 = 0 # rays rays\n"),
+        (
+            "((x^2+1)*y)/(x*y+3)",
+            "bounds all num 3 den 2",
+            0,
+            "f1 = (x^2*y + y)/(x*y + 3) # rays rays\n",
+        ),
+        ("1/(x-y)", "bounds all num 2 den 0", 1, "f1 ? nopair 1\n"),
+        (
+            "5*x",
+            "bounds all num 1 den 0\ncoeff 4 1",
+            1,
+            "f1 ? norational numerator x 5 # rays rays\n",
+        ),
+    ];
+    for (exprs, lines, status, out) in cases {
+        let file = with_bounds(rt.alloc(), exprs, lines)?;
+        let words = ["reconstruct", "f", "--report"];
+        let told = run_on(&rt, &words, steady(file.as_bytes()))?;
+        assert!(rt; is_told(&told, status, out, ""), "{exprs}: {told:?}");
+    }
+    Ok(())
+}
+
+/// The 8 points of the first attempt for numerators of degree 0 and denominators of degree 1 in two variables.
+fn linear_points(alloc: Global) -> Result<Vec<Point>, AllocError> {
+    let grid = Grid {
+        variables: 2,
+        total: 1,
+        each: [1, 1, 0, 0, 0, 0, 0, 0],
+    };
+    attempt(alloc, &grid, 0)
+}
+
+/// The entry at this place of the point with this number.
+fn entry(points: &[Point], number: usize, place: usize) -> Result<u64, Fail> {
+    let Some(point) = points.get(number) else {
+        return Err(Fail::from("no such point"));
+    };
+    match point.entries().get(place) {
+        Some(entry) => Ok(*entry),
+        None => Err(Fail::from("no such entry")),
+    }
+}
+
+/// On the second ray of the attempt the denominator is the same at all points.
+#[test]
+fn a_denominator_that_loses_its_degree_on_a_ray_is_fitted(rt: HostRuntime) -> Result<(), Fail> {
+    let points = linear_points(rt.alloc())?;
+    let slope = entry(&points, 5, 1)?.abs_diff(entry(&points, 4, 1)?);
+    let expr = format!(in rt.alloc(); "1/(y-{slope}*x)")?;
+    let file = with_bounds(rt.alloc(), expr.as_str(), "bounds all num 0 den 1")?;
+    let words = ["reconstruct", "--report", "f"];
+    let told = run_on(&rt, &words, steady(file.as_bytes()))?;
+    let out = format!(in rt.alloc(); "f1 = (-1/{slope})/(x - 1/{slope}*y) # fit fit\n")?;
+    assert!(rt; is_told(&told, 0, out.as_str(), ""), "{told:?}");
+    Ok(())
+}
+
+/// A file whose function has no value at the first point of the first attempt, nor at the last of 70 points.
+fn with_gaps(alloc: Global) -> Result<String, Fail> {
+    let gap = entry(&linear_points(alloc)?, 0, 0)?;
+    let expr = format!(in alloc; "1/(x-{gap})")?;
+    let mut file = with_bounds(alloc, expr.as_str(), "bounds all num 0 den 1")?;
+    for x in 0..69 {
+        let line = format!(in alloc; "point {x} 1\n")?;
+        file.push_str(line.as_str())?;
+    }
+    let line = format!(in alloc; "point {gap} 1\n")?;
+    file.push_str(line.as_str())?;
+    Ok(file)
+}
+
+#[test]
+fn the_number_of_workers_changes_no_byte(rt: HostRuntime) -> Result<(), Fail> {
+    let file = with_gaps(rt.alloc())?;
+    for command in ["sample", "reconstruct"] {
+        let one = run_on(&rt, &[command, "f"], steady(file.as_bytes()))?;
+        assert!(rt; one.status == 0 && !one.out.is_empty(), "{one:?}");
+        for workers in ["1", "2", "3", "16"] {
+            let words = [command, "--workers", workers, "f"];
+            let told = run_on(&rt, &words, steady(file.as_bytes()))?;
+            assert!(rt; is_same(&told, &one), "{words:?}: {told:?}");
+        }
     }
     Ok(())
 }
@@ -481,7 +594,7 @@ fn outputs_are_reconstructed_as_functions(rt: HostRuntime) -> Result<(), Fail> {
 #[test]
 fn a_graph_that_gives_its_variable_prints_it(rt: HostRuntime) -> Result<(), Fail> {
     let file = "flow 1\ngraph main\ninput x\noutput input\nbounds all num 1 den 0\n";
-    let told = run_on(rt.alloc(), &["reconstruct", "f"], steady(file.as_bytes()))?;
+    let told = run_on(&rt, &["reconstruct", "f"], steady(file.as_bytes()))?;
     assert!(rt; is_told(&told, 0, "f1 = x\n", ""), "{told:?}");
     Ok(())
 }
@@ -495,7 +608,7 @@ fn a_modulus_without_a_good_attempt_is_told_with_its_gaps(rt: HostRuntime) -> Re
     let cases = [("x ; 1/(x-x)", first), ("1/9223372036854775783", second)];
     for (exprs, err) in cases {
         let file = with_bounds(rt.alloc(), exprs, "bounds all num 0 den 0")?;
-        let told = run_on(rt.alloc(), &["reconstruct", "f"], steady(file.as_bytes()))?;
+        let told = run_on(&rt, &["reconstruct", "f"], steady(file.as_bytes()))?;
         assert!(rt; is_told(&told, 5, "", err), "{exprs}: {told:?}");
     }
     Ok(())
@@ -521,7 +634,7 @@ fn what_a_file_lacks_for_functions_is_told(rt: HostRuntime) -> Result<(), Fail> 
     ];
     for (lines, status, err) in cases {
         let file = with_bounds(rt.alloc(), "x", lines)?;
-        let told = run_on(rt.alloc(), &["reconstruct", "f"], steady(file.as_bytes()))?;
+        let told = run_on(&rt, &["reconstruct", "f"], steady(file.as_bytes()))?;
         assert!(rt; is_told(&told, status, "", err), "{lines}: {told:?}");
     }
     Ok(())
@@ -535,9 +648,9 @@ const BUBBLE: &str =
 fn integrals_are_reduced_to_master_integrals(rt: HostRuntime) -> Result<(), Fail> {
     let out =
         "f1 = (-d + 3)/(s - 4*m)\nf2 = (d - 2)/(s^2 - 4*s*m)\nf3 = (1/2*d*s - d*m - s + 2*m)/(s^2*m - 4*s*m^2)\nf4 = 0\nf5 = (d^2*s - 9*d*s + 4*d*m + 18*s - 12*m)/(s^3 - 8*s^2*m + 16*s*m^2)\nf6 = (-d^2*m + 1/2*d*s + 5*d*m - s - 6*m)/(s^3*m - 8*s^2*m^2 + 16*s*m^3)\nf7 = (-d^2*m + 1/2*d*s + 5*d*m - s - 6*m)/(s^3*m - 8*s^2*m^2 + 16*s*m^3)\nf8 = 0\n";
-    let told = run_on(rt.alloc(), &["reconstruct", "f"], steady(BUBBLE.as_bytes()))?;
+    let told = run_on(&rt, &["reconstruct", "f"], steady(BUBBLE.as_bytes()))?;
     assert!(rt; is_told(&told, 0, out, ""), "{told:?}");
-    let learned = run_on(rt.alloc(), &["learn", "f"], steady(BUBBLE.as_bytes()))?;
+    let learned = run_on(&rt, &["learn", "f"], steady(BUBBLE.as_bytes()))?;
     assert!(rt;
         is_told(
             &learned,
@@ -553,7 +666,7 @@ fn integrals_are_reduced_to_master_integrals(rt: HostRuntime) -> Result<(), Fail
 #[test]
 fn lists_of_wrong_lengths_are_refused(rt: HostRuntime) -> Result<(), Fail> {
     let past = "flow 1\ngraph main\ninput x y\nnode t take input 3\noutput t\npoint 1 2\n";
-    let told = run_on(rt.alloc(), &["sample", "f"], steady(past.as_bytes()))?;
+    let told = run_on(&rt, &["sample", "f"], steady(past.as_bytes()))?;
     assert!(rt;
         is_told(&told, 4, "", "flow: graph main node t length\n"),
         "{told:?}"
@@ -564,13 +677,29 @@ fn lists_of_wrong_lengths_are_refused(rt: HostRuntime) -> Result<(), Fail> {
 #[test]
 fn words_that_ask_for_nothing_are_refused_with_their_place(rt: HostRuntime) -> Result<(), Fail> {
     let none: &[&str] = &[];
-    let cases: [(&[&str], &str); 15] = [
+    let cases: [(&[&str], &str); 31] = [
         (none, "1"),
         (&["reconstruct"], "2"),
         (&["reconstruct", "f", "--second"], "3"),
         (&["sample"], "2"),
         (&["sample", "a", "b"], "3"),
-        (&["sample", "--workers", "17", "f"], "2"),
+        (&["sample", "--workers", "17", "f"], "3"),
+        (&["sample", "--workers", "017", "f"], "3"),
+        (&["sample", "--workers", "0", "f"], "3"),
+        (&["sample", "--workers", "f"], "3"),
+        (&["sample", "f", "--workers"], "4"),
+        (&["sample", "--workers", "2", "--workers", "2", "f"], "4"),
+        (&["sample", "--report", "f"], "2"),
+        (&["reconstruct", "--workers=2", "f"], "2"),
+        (&["reconstruct", "--report", "f", "--report"], "4"),
+        (&["learn", "--workers", "2", "f"], "2"),
+        (&["demo"], "2"),
+        (&["demo", "0"], "2"),
+        (&["demo", "17"], "2"),
+        (&["demo", "02"], "2"),
+        (&["demo", "2", "--report"], "3"),
+        (&["demo", "2", "f"], "3"),
+        (&["sample", "--", "f"], "2"),
         (&["sample", ""], "2"),
         (&["learn"], "2"),
         (&["learn", "--second"], "2"),
@@ -582,9 +711,80 @@ fn words_that_ask_for_nothing_are_refused_with_their_place(rt: HostRuntime) -> R
         (&["sample", "--second", "f", "--second"], "4"),
     ];
     for (words, place) in cases {
-        let told = run_on(rt.alloc(), words, steady(QUOTIENTS.as_bytes()))?;
+        let told = run_on(&rt, words, steady(QUOTIENTS.as_bytes()))?;
         let err = format!(in rt.alloc(); "flow: bad words at {place}\n")?;
         assert!(rt; is_told(&told, 2, "", err.as_str()), "{words:?}: {told:?}");
+    }
+    Ok(())
+}
+
+#[test]
+fn options_stand_before_the_file_and_behind_it(rt: HostRuntime) -> Result<(), Fail> {
+    let at_second = run_on(
+        &rt,
+        &["sample", "f", "--second"],
+        steady(QUOTIENTS.as_bytes()),
+    )?;
+    for words in [
+        ["sample", "--workers", "2", "f", "--second"],
+        ["sample", "f", "--second", "--workers", "16"],
+        ["sample", "--second", "f", "--workers", "10"],
+        ["sample", "--second", "--workers", "9", "f"],
+    ] {
+        let told = run_on(&rt, words.as_slice(), steady(QUOTIENTS.as_bytes()))?;
+        assert!(rt;
+            told.status == 0 && told.out == at_second.out && told.err.is_empty(),
+            "{words:?}: {told:?}"
+        );
+    }
+    Ok(())
+}
+
+/// The number of bytes, and their sum with each times its place, counted from 1.
+fn sums(bytes: &[u8]) -> (usize, u64) {
+    let mut sum = 0_u64;
+    for (place, byte) in bytes.iter().enumerate() {
+        let weight = place as u64 + 1;
+        sum = sum.wrapping_add(weight.wrapping_mul(u64::from(*byte)));
+    }
+    (bytes.len(), sum)
+}
+
+#[test]
+fn the_file_of_the_demo_has_each_step_64_times(rt: HostRuntime) -> Result<(), Fail> {
+    let least = demo_file(rt.alloc(), 1)?;
+    let begins =
+        "flow 1\ngraph main\ninput d m\nnode c eval input = 2*m ; -1*(d-2) ; 4*m ; -2*(d-2)";
+    assert!(rt; least.starts_with(begins.as_bytes()), "{least:?}");
+    let ends = "\nrow 1 2\nrow 1 2\noutput s\nbounds all num 1 1 0 den 1 0 1\n";
+    assert!(rt; least.ends_with(ends.as_bytes()), "{least:?}");
+    assert_eq!(rt; sums(least.as_slice()), (1834, 98983458));
+    let greatest = demo_file(rt.alloc(), 16)?;
+    assert_eq!(rt; sums(greatest.as_slice()), (30384, 26521810223));
+    Ok(())
+}
+
+#[test]
+fn the_demo_prints_its_numbers_and_its_first_function(rt: HostRuntime) -> Result<(), Fail> {
+    let nothing_there = Devices {
+        file: None,
+        failing_reads: &[1],
+        ..steady(b"")
+    };
+    for words in [
+        ["demo", "2"].as_slice(),
+        ["demo", "--workers", "4", "2"].as_slice(),
+    ] {
+        let told = run_on(&rt, words, nothing_there)?;
+        assert!(rt;
+            is_told(
+                &told,
+                0,
+                "demo 2\npoints 21\noutputs 6\nfound 6\nf1 = (1/8*d^2 - 3/4*d + 1)/(m^2)\n",
+                ""
+            ),
+            "{told:?}"
+        );
     }
     Ok(())
 }
@@ -674,7 +874,7 @@ fn with_long_output(alloc: Global) -> Result<String, AllocError> {
 #[test]
 fn an_output_of_8192_numbers_is_one_line(rt: HostRuntime) -> Result<(), Fail> {
     let file = with_long_output(rt.alloc())?;
-    let told = run_on(rt.alloc(), &["sample", "f"], steady(file.as_bytes()))?;
+    let told = run_on(&rt, &["sample", "f"], steady(file.as_bytes()))?;
     assert_eq!(rt; told.status, 0);
     assert_eq!(rt; told.out.len(), 16_384);
     for (place, byte) in told.out.as_slice().iter().enumerate() {
@@ -696,10 +896,10 @@ fn a_file_is_long_from_16777217_bytes_on(rt: HostRuntime) -> Result<(), Fail> {
     for _ in QUOTIENTS.len()..16_777_216 {
         file.push(b'#')?;
     }
-    let whole = run_on(rt.alloc(), &["sample", "f"], steady(file.as_slice()))?;
+    let whole = run_on(&rt, &["sample", "f"], steady(file.as_slice()))?;
     assert!(rt; is_told(&whole, 0, RESIDUES, ""), "{whole:?}");
     file.push(b'#')?;
-    let long = run_on(rt.alloc(), &["sample", "f"], steady(file.as_slice()))?;
+    let long = run_on(&rt, &["sample", "f"], steady(file.as_slice()))?;
     assert!(rt; is_told(&long, 3, "", "flow: file too long\n"), "{long:?}");
     Ok(())
 }
@@ -728,14 +928,14 @@ fn with_nodes(alloc: Global, count: usize) -> Result<String, AllocError> {
 fn points_and_nodes_have_their_limits(rt: HostRuntime) -> Result<(), Fail> {
     let alloc = rt.alloc();
     let points = run_on(
-        alloc,
+        &rt,
         &["sample", "f"],
         steady(with_points(alloc, 65_536)?.as_bytes()),
     )?;
     assert_eq!(rt; points.status, 0);
     assert_eq!(rt; points.out.len(), 4 * 65_536);
     let past = run_on(
-        alloc,
+        &rt,
         &["sample", "f"],
         steady(with_points(alloc, 65_537)?.as_bytes()),
     )?;
@@ -744,13 +944,13 @@ fn points_and_nodes_have_their_limits(rt: HostRuntime) -> Result<(), Fail> {
         "{past:?}"
     );
     let nodes = run_on(
-        alloc,
+        &rt,
         &["sample", "f"],
         steady(with_nodes(alloc, 4096)?.as_bytes()),
     )?;
     assert!(rt; is_told(&nodes, 0, "7\n", ""), "{nodes:?}");
     let past = run_on(
-        alloc,
+        &rt,
         &["sample", "f"],
         steady(with_nodes(alloc, 4097)?.as_bytes()),
     )?;

@@ -1,46 +1,83 @@
 //! The words after the program's name.
 
-ghost use Rattle.std.specs.Prelude.{◌≡◌, ◌<◌, ◌-◌, ℕ, List, None, false, length, IfOk};
-ghost use Rattle.flow_program.specs.Words.{IsBadAt, Request, asked, is_file, request, texts};
-ghost use Rattle.flow_program.specs.Parsed.{Finds, Reads, parsed, parsed_alone, parsed_from};
+ghost use Rattle.std.specs.Prelude.{◌≡◌, ◌<◌, ◌-◌, ℕ, None, IfOk, length};
+ghost use Rattle.flow_program.specs.Words.{HasCounts, IsBadAt, asked, request, texts};
+ghost use Rattle.flow_program.specs.Parsed.{Reads, Tests, nothing_given, parsed, parsed_from, parsed_learn};
 
+use crate::line::{command_in, learn_in, learn_matches_in, matches_in};
 use crate::task::{Task, modulus_of};
+use crate::verb::{Met, Verb, is_file};
 use std::alloc::{AllocError, Global};
 use thiserror::Error;
 
-/// What the program is asked to do.
+/// What the program is asked to do. The number of workers is from 1 to 16, and 1 where the words don't say it.
 #[derive(Debug, Drop)]
 pub enum Command {
     /// Evaluates the main graph of the file at each of its points, modulo the first modulus, or the second one.
-    Sample { file: String, second: bool },
+    Sample {
+        file: String,
+        workers: u32,
+        second: bool,
+    },
     /// Learns the graphs of the file.
-    Learn { file: String },
-    /// Reconstructs the functions that the outputs of the file's main graph are.
-    Reconstruct { file: String },
+    Learn {
+        file: String,
+    },
+    /// Reconstructs the functions that the outputs of the file's main graph are, with or without a report.
+    Reconstruct {
+        file: String,
+        workers: u32,
+        report: bool,
+    },
+    /// Reconstructs the functions of the demo of size `n`, which is from 1 to 16.
+    Demo {
+        n: u32,
+        workers: u32,
+    },
 }
 
 impl Command {
-    ghost use Rattle.flow_program.specs.Words.{file_of, request};
+    ghost use Rattle.flow_program.specs.Words.{IsCount, request};
     ghost use Rattle.flow_program.specs.Tasks.{task_of};
 
-    /// The file that is named.
-    pub(crate) fn file(&self) -> &str
-        ensures { result.now ≡ file_of (request self.now) }
-    {
-        match self {
-            Command::Sample { file, second: _ } => file.as_str(),
-            Command::Learn { file } | Command::Reconstruct { file } => file.as_str(),
-        }
-    }
-
-    /// What is to be done with the file.
+    /// What is to be done with the file, or with the demo.
     pub(crate) fn task(&self) -> Task
         ensures { result ≡ task_of (request self.now) }
     {
         match self {
-            Command::Sample { file: _, second } => Task::Sample(modulus_of(*second)),
+            Command::Sample {
+                file: _,
+                workers: _,
+                second,
+            } => Task::Sample(modulus_of(*second)),
             Command::Learn { file: _ } => Task::Learn,
-            Command::Reconstruct { file: _ } => Task::Reconstruct,
+            Command::Reconstruct {
+                file: _,
+                workers: _,
+                report,
+            } => Task::Reconstruct { report: *report },
+            Command::Demo { n, workers: _ } => Task::Demo(*n),
+        }
+    }
+
+    /// How many workers are to do it. One learns.
+    pub(crate) fn workers(&self) -> u32
+        requires { HasCounts (request self.now) }
+        ensures { IsCount result }
+    {
+        match self {
+            Command::Sample {
+                file: _,
+                workers,
+                second: _,
+            } => *workers,
+            Command::Learn { file: _ } => 1,
+            Command::Reconstruct {
+                file: _,
+                workers,
+                report: _,
+            } => *workers,
+            Command::Demo { n: _, workers } => *workers,
         }
     }
 }
@@ -65,77 +102,88 @@ impl From<AllocError> for WordsError {
     }
 }
 
-/// A word names a file where it is a dash alone or begins with no dash.
-fn is_file_name(word: &str) -> bool
-    ensures { result ≡ is_file word.now }
-{
-    word == "-" || !(word.is_empty() || word.starts_with("-"))
-}
-
-/// What the words behind `sample` ask for.
-fn parse_sample(alloc: Global, words: &[String]) -> Result<Command, WordsError>
+/// Tests the words behind the name of a command that takes workers.
+fn test_verb(verb: Verb, words: &[String]) -> Result<(), WordsError>
     requires { length words.now < usize.MAX - 2 }
-    ensures { Reads result (parsed_from 2 None false (texts words.now)) }
+    ensures { Tests result (parsed_from verb 2 nothing_given (texts words.now)) }
 {
-    let mut file: Option<&str> = None;
-    let mut second = false;
+    let mut met = Met::nothing();
     for (index, word) in words.iter().enumerate() {
-        let place = index + 2;
-        if word.as_str() == "--second" {
-            if second {
-                return Err(WordsError::Bad { word: place });
-            }
-            second = true;
-        } else if is_file_name(word.as_str()) && file.is_none() {
-            file = Some(word.as_str());
-        } else {
-            return Err(WordsError::Bad { word: place });
-        }
+        let Some(next) = met.with_word(verb, word.as_str()) else {
+            return Err(WordsError::Bad { word: index + 2 });
+        };
+        met = next;
     }
-    let Some(file) = file else {
+    if !met.is_whole() {
         return Err(WordsError::Bad {
             word: words.len() + 2,
         });
-    };
-    let file = String::from_str(alloc, file)?;
-    Ok(Command::Sample { file, second })
+    }
+    Ok(())
 }
 
-/// The file behind the name of a command that takes a file and nothing else.
-fn parse_alone(alloc: Global, words: &[String]) -> Result<String, WordsError>
-    ensures { (wish : List ℕ → Request) → Finds wish result (parsed_alone wish (texts words.now)) }
+/// What the words behind the name of a command that takes workers ask for.
+fn parse_verb(alloc: Global, verb: Verb, words: &[String]) -> Result<Command, WordsError>
+    requires { length words.now < usize.MAX - 2 }
+    ensures { Reads result (parsed_from verb 2 nothing_given (texts words.now)) }
+{
+    test_verb(verb, words)?;
+    let Ok(matches) = matches_in(alloc, verb, words) else {
+        return Err(WordsError::NoMemory);
+    };
+    Ok(command_in(alloc, verb, &matches)?)
+}
+
+/// Tests the words behind `learn`.
+fn test_learn(words: &[String]) -> Result<(), WordsError>
+    ensures { Tests result (parsed_learn (texts words.now)) }
 {
     match words {
-        [file, rest @ ..] if is_file_name(file.as_str()) => {
+        [file, rest @ ..] if is_file(file.as_str()) => {
             if !rest.is_empty() {
                 return Err(WordsError::Bad { word: 3 });
             }
-            Ok(String::from_str(alloc, file.as_str())?)
+            Ok(())
         }
         _ => Err(WordsError::Bad { word: 2 }),
     }
+}
+
+/// What the words behind `learn` ask for.
+fn parse_learn(alloc: Global, words: &[String]) -> Result<Command, WordsError>
+    ensures { Reads result (parsed_learn (texts words.now)) }
+{
+    test_learn(words)?;
+    let Ok(matches) = learn_matches_in(alloc, words) else {
+        return Err(WordsError::NoMemory);
+    };
+    Ok(learn_in(alloc, &matches)?)
 }
 
 /// What the words ask for, or the place of the first that doesn't fit, found by reading them one after another.
 fn parse_words(alloc: Global, words: &[String]) -> Result<Command, WordsError>
     ensures { Reads result (parsed (texts words.now)) }
 {
-    match words {
-        [word, rest @ ..] if word.as_str() == "sample" => Ok(parse_sample(alloc, rest)?),
-        [word, rest @ ..] if word.as_str() == "learn" => Ok(Command::Learn {
-            file: parse_alone(alloc, rest)?,
-        }),
-        [word, rest @ ..] if word.as_str() == "reconstruct" => Ok(Command::Reconstruct {
-            file: parse_alone(alloc, rest)?,
-        }),
+    let [name, rest @ ..] = words else {
+        return Err(WordsError::Bad { word: 1 });
+    };
+    match name.as_str() {
+        "sample" => parse_verb(alloc, Verb::Sample, rest),
+        "learn" => parse_learn(alloc, rest),
+        "reconstruct" => parse_verb(alloc, Verb::Reconstruct, rest),
+        "demo" => parse_verb(alloc, Verb::Demo, rest),
         _ => Err(WordsError::Bad { word: 1 }),
     }
 }
 
-/// What the words ask for. `Bad` exactly where the grammar admits them for nothing, with the place,
-/// counted from 1, of the first word up to which no admitted words go.
+/// What the words ask for.
+///
+/// # Errors
+/// `Bad` exactly where the grammar admits the words for nothing, with the place, counted from 1, of the first word up to which
+/// no admitted words go.
 pub fn read_words(alloc: Global, words: &[String]) -> Result<Command, WordsError>
     ensures asked { IfOk result (λ command. asked (texts words.now) ≡ Some (request command)) }
+    ensures counts { IfOk result (λ command. HasCounts (request command)) }
     ensures bad { (k : ℕ) → result ≡ Err (WordsError.Bad k) → IsBadAt (texts words.now) k }
 {
     parse_words(alloc, words)

@@ -6,9 +6,11 @@ use super::*;
 use graph_eval::Cause;
 use graph_file::{Job, Need, read_graphs};
 use learn_phase::learn;
+use parallel_sampler::{Crew, OpenGate};
 use prime_field::Modulus;
 use std::alloc::Global;
 use std::test::Fail;
+use std::thread::Threads;
 
 /// What trying attempts told of one output of a file.
 #[derive(Debug, PartialEq, Drop)]
@@ -29,14 +31,21 @@ fn job_of(alloc: Global, text: &str) -> Result<Job, Fail>
 }
 
 /// What trying attempts tells of output `k`, counted from 0, of the file with this text, modulo `m`.
-fn told_by(alloc: Global, text: &str, m: Modulus, k: usize) -> Result<Told, Fail> {
+fn told_by<R: Threads + Sync>(
+    rt: &R,
+    alloc: Global,
+    text: &str,
+    m: Modulus,
+    k: usize,
+) -> Result<Told, Fail> {
     let job = job_of(alloc, text)?;
     let learned = learn(alloc, &job)?;
     if k >= learned.outputs() {
         return Err(Fail::from("no such output"));
     }
     let grid = job.grid();
-    match first_good(alloc, &job, &learned, m, &grid)? {
+    let mut crew = Crew::new(alloc, &job, &learned, 2)?;
+    match first_good(rt, alloc, &mut crew, &job, &learned, m, &grid, &OpenGate)? {
         Attempts::Good(good) => Ok(Told::Good {
             attempt: good.attempt(),
             column: good.column(alloc, k)?,
@@ -69,7 +78,7 @@ fn polynomials_are_good_at_attempt_0(rt: HostRuntime) -> Result<(), Fail> {
         862628740104276792,
     ];
     let want = good(alloc, 0, &sums)?;
-    assert_eq!(rt; told_by(alloc, text, Modulus::first(), 0)?, want);
+    assert_eq!(rt; told_by(&rt, alloc, text, Modulus::first(), 0)?, want);
 
     let products = [
         1990411864136232463,
@@ -82,7 +91,7 @@ fn polynomials_are_good_at_attempt_0(rt: HostRuntime) -> Result<(), Fail> {
         634736532715517529,
     ];
     let want = good(alloc, 0, &products)?;
-    assert_eq!(rt; told_by(alloc, text, Modulus::second(), 1)?, want);
+    assert_eq!(rt; told_by(&rt, alloc, text, Modulus::second(), 1)?, want);
     Ok(())
 }
 
@@ -98,7 +107,7 @@ fn a_pole_at_a_point_of_attempt_0_leaves_attempt_1(rt: HostRuntime) -> Result<()
         810533018984851719,
     ];
     let want = good(alloc, 1, &first)?;
-    assert_eq!(rt; told_by(alloc, text, Modulus::first(), 0)?, want);
+    assert_eq!(rt; told_by(&rt, alloc, text, Modulus::first(), 0)?, want);
 
     let second = [
         3808980102449920346,
@@ -107,7 +116,7 @@ fn a_pole_at_a_point_of_attempt_0_leaves_attempt_1(rt: HostRuntime) -> Result<()
         7792663896595184617,
     ];
     let want = good(alloc, 1, &second)?;
-    assert_eq!(rt; told_by(alloc, text, Modulus::second(), 0)?, want);
+    assert_eq!(rt; told_by(&rt, alloc, text, Modulus::second(), 0)?, want);
     Ok(())
 }
 
@@ -130,7 +139,7 @@ fn attempts_are_exhausted_where_there_is_no_value(rt: HostRuntime) -> Result<(),
     let text =
         "flow 1\ngraph main\ninput x\nnode r eval input = 1/(x-x)\noutput r\nbounds all num 0 den 1\n";
     let want = gaps_at(alloc, 0, &[0; 8])?;
-    assert_eq!(rt; told_by(alloc, text, Modulus::first(), 0)?, want);
+    assert_eq!(rt; told_by(&rt, alloc, text, Modulus::first(), 0)?, want);
     Ok(())
 }
 
@@ -141,6 +150,6 @@ fn the_first_gap_of_each_attempt_is_told(rt: HostRuntime) -> Result<(), Fail> {
     let text =
         "flow 1\ngraph main\ninput x\nnode d eval input = (x-760193186456479708)*(x-547693886933905906)*(x-419350911784671048)*(x-419350911784671049)*(x-860954586341042142)*(x-182846897149391795)*(x-618690436954950343)*(x-440215892483980571)*(x-917580904535333551)\nnode r eval d = 1/z1\noutput r\nbounds all num 0 den 1\n";
     let want = gaps_at(alloc, 1, &[0, 1, 2, 3, 3, 2, 1, 0])?;
-    assert_eq!(rt; told_by(alloc, text, Modulus::first(), 0)?, want);
+    assert_eq!(rt; told_by(&rt, alloc, text, Modulus::first(), 0)?, want);
     Ok(())
 }

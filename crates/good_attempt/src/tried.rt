@@ -6,6 +6,7 @@ ghost use Rattle.prime_field.specs.Residue.{IsPrime};
 ghost use Rattle.graph_eval.specs.Evaluated.{HasInputs};
 ghost use Rattle.graph_eval.specs.GraphValue.{GraphValue, main_number};
 ghost use Rattle.graph_eval.specs.Learned.{Fits, outputs_of, sets_of};
+ghost use Rattle.graph_eval.specs.Made.{IsMadeFor};
 ghost use Rattle.ray_grid.specs.Attempt.{attempt_points};
 ghost use Rattle.ray_grid.specs.Grid.{IsGrid, point_count};
 ghost use Rattle.good_attempt.specs.Attempts.{IsSampling};
@@ -17,10 +18,11 @@ use crate::gap::Gap;
 use crate::good::GoodAttempt;
 use graph_eval::Learned;
 use graph_file::Job;
-use parallel_sampler::{Samples, sample};
+use parallel_sampler::{Crew, Gate, Samples, sample};
 use prime_field::Modulus;
 use ray_grid::{Grid, attempt};
 use std::alloc::Global;
+use std::thread::Threads;
 
 /// How many attempts there are.
 pub const ATTEMPTS: u32 = 8;
@@ -53,19 +55,25 @@ fn first_gap(samples: &Samples) -> Option<Gap>
 }
 
 /// The first attempt over the grid at each of whose points the job's main graph has values modulo `m`, with these values.
-/// The attempts are tried in turn from number 0 on, and none behind the first good one.
-pub fn first_good(
+/// The attempts are tried in turn from number 0 on, and none behind the first good one. The crew samples each, and the gate is
+/// told of each block of its points. The crew is made for the job both after an answer and where memory runs out.
+pub fn first_good<G: Gate, R: Threads + Sync>(
+    rt: &R,
     alloc: Global,
+    crew: &mut Crew,
     job: &Job,
     learned: &Learned,
     m: Modulus,
     grid: &Grid,
+    gate: &G,
 ) -> Result<Attempts, NoMemory>
+    requires made { All (IsMadeFor job.now.graphs learned.now) crew.old }
     requires fits { Fits job.now.graphs learned.now }
     requires grid { IsGrid grid.now }
     requires variables { HasVariables (slice_get job.now.graphs (main_number job.now.graphs)) grid.now.variables }
     requires few { point_count grid.now ≤ 65536 }
     requires room { point_count grid.now * outputs_of learned.now ≤ 1048576 }
+    ensures made { All (IsMadeFor job.now.graphs learned.now) crew.new }
     ensures sampling { IfOk result (λ tried. IsPrime (value_of m)
         → IsSampling (GraphValue (value_of m) job.now.graphs (sets_of learned.now) (main_number job.now.graphs)) (attempt_points grid.now) (sampling_of tried)) }
     ensures fits { IfOk result (λ tried.
@@ -74,7 +82,7 @@ pub fn first_good(
     let mut gaps = Vec::with_capacity(alloc, ATTEMPTS as usize)?;
     for r in 0..ATTEMPTS {
         let points = attempt(alloc, grid, r)?;
-        let samples = sample(alloc, job, learned, m, &points)?;
+        let samples = sample(rt, alloc, crew, job, learned, m, &points, gate)?;
         match first_gap(&samples) {
             None => return Ok(Attempts::Good(GoodAttempt::of(r, samples))),
             Some(gap) => gaps.push(gap)?,

@@ -1,5 +1,5 @@
 -- What an earlier graph gives is the list of the node that calls it.
-use Rattle.std.proofs.Common.{◌≡◌, ℕ, zero, suc, ◌+◌, ◌*◌, ◌<◌, ◌≤◌, ◌++◌, List, [], ◌∷◌, All, Result, Ok, Err, Bool, true, false, MatchBool, length, map, take, drop, Some, refl, sym, ◌∙◌, ap, subst, arith}
+use Rattle.std.proofs.Common.{◌≡◌, ℕ, ℤ, zero, suc, ◌*◌, ◌<◌, ◌++◌, List, [], ◌∷◌, Result, Ok, Err, Bool, true, MatchBool, length, map, take, drop, Some, inl, inr, refl, sym, ◌∙◌, ap, subst, arith}
 use Rattle.std.specs.Prelude.{IfErr, IfOk, OnOk, slice_get, slice_index_or}
 use Rattle.std.proofs.lemmas.List.{length-map}
 use Rattle.std.proofs.lemmas.Option.{slice_get_within}
@@ -10,16 +10,17 @@ use Rattle.basic_nodes.proofs.Pieces.{chained_residues}
 use Rattle.graph_file.specs.declared.graph.Graph.{Graph}
 use Rattle.graph_file.specs.declared.graph.Node.{Node}
 use Rattle.graph_file.specs.declared.graph.NodeKind.{NodeKind}
-use Rattle.graph_file.specs.declared.graph.NodeKind.TheVariants.{Call, Memo, Map}
+use Rattle.graph_file.specs.declared.graph.NodeKind.TheVariants.{Call, Memo, Map, Laurent}
 use Rattle.graph_file.specs.declared.graph.Source.{Source}
 use Rattle.graph_eval.specs.declared.learned.GraphLearned.{GraphLearned}
 use Rattle.graph_eval.specs.declared.outcome.Cause.{Cause}
 use Rattle.graph_eval.specs.declared.outcome.Singular.{Singular}
-use Rattle.graph_eval.specs.declared.shapes.GraphSize.{GraphSize}
 use Rattle.graph_eval.specs.Evaluated.{cause_told, no_graphs}
-use Rattle.graph_eval.specs.GraphValue.{GraphValue, IsStopped, KindFails, KindGives, Meaning, NodeFails, NodeGives, SingularAt, Value, meanings}
-use Rattle.graph_eval.specs.Learned.{FitsFirst, sets_of, size_at, size_of, sizes_of}
-use Rattle.graph_eval.specs.Stacked.{AreCalled, IsAdded, IsCalled}
+use Rattle.graph_eval.specs.declared.expansion.Window.{Window}
+use Rattle.graph_eval.specs.Expanded.{expansion_inputs, orders_of, window_of}
+use Rattle.graph_eval.specs.GraphValue.{GivesFirst, GraphValue, IsExpanded, IsNotExpanded, IsStopped, KindFails, KindGives, Meaning, NodeFails, NodeGives, SingularAt, Value, meanings}
+use Rattle.graph_eval.specs.Learned.{sets_of, size_at, size_of, sizes_of}
+use Rattle.graph_eval.specs.Stacked.{AreCalled, IsAdded, IsCalled, IsExpandedCall}
 use Rattle.graph_eval.proofs.EvaluationLaws.{alone, fails_alone}
 use Rattle.graph_eval.proofs.Meanings.{earlier_means}
 
@@ -146,6 +147,57 @@ module _ (m : ℕ) (graphs : List Graph) (learned : List GraphLearned) (number c
     failed_map kind is =
         subst (λ (t : Result (Unit {0}) Cause). IfErr t (λ cause. IsPrime m → (set : List ℕ) → NodeFails m means set list node cause)) (sym told_is)
         (map_err answer kind (subst (λ (ps : List Source). IfErr answer (λ singular. IsPrime m → IsStopped (GraphValue m graphs (sets_of learned) called) (map list ps) singular.cause)) shown_is is))
+
+  -- on the points of an expansion
+  module _ (window : Window) (gives : (set values : List ℕ) → IsExpanded m window (means called) chain values → KindGives m means set list node.kind values) (fails : (set : List ℕ) (cause : Cause) → IsNotExpanded m window (means called) chain cause → KindFails m means set list node.kind cause) where
+    abbrev value : Meaning
+    value = GraphValue m graphs (sets_of learned) called
+
+    first_means : (outs : List (List ℕ)) → GivesFirst value (expansion_inputs window chain) outs → GivesFirst (means called) (expansion_inputs window chain) outs
+    first_means outs first = record {
+      within = first.within;
+      each = λ n within. earlier_means m graphs (sets_of learned) number called (slice_index_or (expansion_inputs window chain) n []) (Value (slice_index_or outs n [])) below (first.each n within);
+    }
+
+    expanded_means : (values : List ℕ) → IsExpanded m window value chain values → IsExpanded m window (means called) chain values
+    expanded_means values is = record { outs = is.outs; first = first_means is.outs is.first; all = is.all; lists = is.lists; many = is.many; each = is.each; values_are = is.values_are }
+
+    not_expanded_means : (cause : Cause) → IsNotExpanded m window value chain cause → IsNotExpanded m window (means called) chain cause
+    not_expanded_means cause (inl stopped) = inl (record {
+      outs = stopped.outs;
+      first = first_means stopped.outs stopped.first;
+      before = stopped.before;
+      node = stopped.node;
+      singular = earlier_means m graphs (sets_of learned) number called (slice_index_or (expansion_inputs window chain) (length stopped.outs) []) (SingularAt stopped.node cause) below stopped.singular;
+    })
+    not_expanded_means cause (inr none) = inr (record { outs = none.outs; first = first_means none.outs none.first; all = none.all; lists = none.lists; each = none.each; before = none.before; fails = none.fails })
+
+    expanded_ok : (told : Result (Unit {0}) Cause) (entry : GraphLearned) → slice_get learned called ≡ Some entry → ((set : List ℕ) (own : ℕ) → Ruled set own → own ≡ entry.output * orders_of window) → OnOk told (IsExpandedCall m graphs learned called window (chained (map list shown)) old new) → OnOk told ((set : List ℕ) (own : ℕ) → Ruled set own → IsAdded m means set list node own old new)
+    expanded_ok (Err cause) entry entry_is own_is is = tt
+    expanded_ok (Ok done) entry entry_is own_is is = λ set own ruled. record {
+      values = is.values;
+      words = is.words;
+      gives = λ prime. node_gives set is.values (gives set is.values (expanded_means is.values (subst (λ (ps : List Source). IsExpanded m window value (chained (map list ps)) is.values) shown_is (is.value prime))));
+      low = is.low;
+      long = is.long entry entry_is ∙ sym (own_is set own ruled);
+    }
+
+    expanded_err : (told : Result (Unit {0}) Cause) → IfErr told (λ cause. IsPrime m → IsNotExpanded m window value (chained (map list shown)) cause) → IfErr told (λ cause. IsPrime m → (set : List ℕ) → NodeFails m means set list node cause)
+    expanded_err (Ok done) is = tt
+    expanded_err (Err cause) is = λ prime set. (needed, fails set cause (not_expanded_means cause (subst (λ (ps : List Source). IsNotExpanded m window value (chained (map list ps)) cause) shown_is (is prime))))
+
+  module _ (lo hi : ℤ) (num den : ℕ) (answer : Result (Unit {0}) Cause) (kind : node.kind ≡ Laurent called lo hi num den parts) where
+    kind_gives : (set values : List ℕ) → IsExpanded m (window_of lo hi num den) (means called) chain values → KindGives m means set list node.kind values
+    kind_gives set values is = subst (λ (k : NodeKind). KindGives m means set list k values) (sym kind) is
+
+    kind_fails : (set : List ℕ) (cause : Cause) → IsNotExpanded m (window_of lo hi num den) (means called) chain cause → KindFails m means set list node.kind cause
+    kind_fails set cause is = subst (λ (k : NodeKind). KindFails m means set list k cause) (sym kind) is
+
+    pub added_laurent : (entry : GraphLearned) → slice_get learned called ≡ Some entry → ((set : List ℕ) (own : ℕ) → Ruled set own → own ≡ entry.output * orders_of (window_of lo hi num den)) → OnOk answer (IsExpandedCall m graphs learned called (window_of lo hi num den) (chained (map list shown)) old new) → OnOk answer ((set : List ℕ) (own : ℕ) → Ruled set own → IsAdded m means set list node own old new)
+    added_laurent entry entry_is own_is is = expanded_ok (window_of lo hi num den) kind_gives kind_fails answer entry entry_is own_is is
+
+    pub failed_laurent : IfErr answer (λ cause. IsPrime m → IsNotExpanded m (window_of lo hi num den) (GraphValue m graphs (sets_of learned) called) (chained (map list shown)) cause) → IfErr answer (λ cause. IsPrime m → (set : List ℕ) → NodeFails m means set list node cause)
+    failed_laurent is = expanded_err (window_of lo hi num den) kind_gives kind_fails answer is
 
 -- of any rule that holds
 pub told_ruled : (Ruled Added : List ℕ → ℕ → Type 0) (answer : Result (Unit {0}) Cause) (set : List ℕ) (own : ℕ) → Ruled set own → OnOk answer ((set : List ℕ) (own : ℕ) → Ruled set own → Added set own) → OnOk answer (Added set own)

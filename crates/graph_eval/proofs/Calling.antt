@@ -2,7 +2,7 @@
 use Rattle.std.proofs.Common.{◌≡◌, ℕ, ◌+◌, ◌-◌, ◌*◌, ◌<◌, ◌≤◌, List, [], ◌∷◌, ◌++◌, All, Result, Ok, Err, length, map, take, drop, sum, get_or, Some, inl, inr, refl, sym, ◌∙◌, ap, subst, append-nil, append_assoc, length-append, length-drop, arith}
 use Rattle.std.specs.Prelude.{IfErr, OnOk, slice_get, slice_index_or, slice_range}
 use Rattle.std.proofs.lemmas.Bool.{cases_eq}
-use Rattle.std.proofs.lemmas.List.{take-append-le, drop-append-le, get_or-map, length-map}
+use Rattle.std.proofs.lemmas.List.{take-append-le, drop-append-le, get_or-map}
 use Rattle.std.proofs.lemmas.List.Elements.{All-append, All-get_or, All-head, All-nil, All-push, All-same, All-tail, All-weaker}
 use Rattle.std.proofs.Math.Seq.{drop-cons, get_or-append_seam}
 use Rattle.std.proofs.Math.ListN.{get_or-append}
@@ -10,16 +10,16 @@ use lib.Seq.{drop_at, take_at}
 use Rattle.prime_field.specs.Residue.{IsPrime}
 use Rattle.word_region.specs.Board.{Board}
 use Rattle.basic_nodes.specs.Plain.{chained}
-use Rattle.basic_nodes.proofs.Pieces.{chained-more, chained_residues}
+use Rattle.basic_nodes.proofs.Pieces.{chained-more}
 use Rattle.graph_file.specs.declared.graph.Graph.{Graph}
 use Rattle.graph_file.specs.declared.graph.Source.{Source}
 use Rattle.graph_file.specs.declared.graph.Source.TheVariants as source
 use Rattle.graph_eval.specs.declared.learned.GraphLearned.{GraphLearned}
 use Rattle.graph_eval.specs.declared.outcome.Singular.{Singular}
-use Rattle.graph_eval.specs.GraphValue.{GivesFirst, GraphValue, IsStopped, SingularAt, Value}
+use Rattle.graph_eval.specs.GraphValue.{GraphValue, IsStopped, SingularAt, Value}
 use Rattle.graph_eval.specs.Learned.{sets_of}
 use Rattle.graph_eval.specs.Needs.{greatest_extra, words_at, words_below, words_for}
-use Rattle.graph_eval.specs.Reading.{HasLength, IsThere, placed, start_of, stop_of}
+use Rattle.graph_eval.specs.Reading.{IsThere, placed, start_of, stop_of}
 use Rattle.graph_eval.specs.Stacked.{AreCalled, IsCalled, IsReady, IsReplaced}
 use Rattle.graph_eval.proofs.Listed.{run_there}
 
@@ -52,8 +52,8 @@ one_part parts k d below =
 -- a graph's inputs are among the words that it needs
 pub inputs_fit : (graphs : List Graph) (learned : List GraphLearned) (number : ℕ) (graph : Graph) (entry : GraphLearned) → slice_get graphs number ≡ Some graph → slice_get learned number ≡ Some entry → length graph.inputs ≤ words_for graphs learned number
 inputs_fit graphs learned number graph entry is entry_is =
-    let words : words_for graphs learned number ≡ length graph.inputs + sum entry.lengths + greatest_extra (words_below graphs learned number) graph.nodes =
-    ap (λ o. words_at (words_below graphs learned number) o (slice_get learned number)) is ∙ ap (words_at (words_below graphs learned number) (Some graph)) entry_is in
+    let words : words_for graphs learned number ≡ length graph.inputs + sum entry.lengths + greatest_extra (words_below graphs learned number) learned graph.nodes =
+    ap (λ o. words_at (words_below graphs learned number) learned o (slice_get learned number)) is ∙ ap (words_at (words_below graphs learned number) learned (Some graph)) entry_is in
     omega arith
 
 -- with its inputs on top the graph is ready, and what it then gives stands behind the words below
@@ -93,6 +93,7 @@ module _ (m : ℕ) (graphs : List Graph) (learned : List GraphLearned) (called :
     first = λ prime. record { within = omega arith; each = λ n below. absurd (omega arith) };
     low = All-nil (All (λ x. x < m));
     long = λ entry is. omega arith;
+    even = λ entry is. All-nil (λ (out : List ℕ). length out ≡ entry.output);
   }
 
   module _ (count : ℕ) (words chain : List ℕ) (so_far : AreCalled m graphs learned called ins count old words) (below : count < length ins) (input : slice_index_or ins count [] ≡ chain) where
@@ -127,6 +128,7 @@ module _ (m : ℕ) (graphs : List Graph) (learned : List GraphLearned) (called :
               let own = one.long entry is in
               let product : (count + 1) * entry.output ≡ count * entry.output + entry.output = grind arith in
               omega arith;
+          even = λ entry is. All-push (λ (out : List ℕ). length out ≡ entry.output) outs values (so_far.even entry is) (one.long entry is);
         }
 
     pub called_stopped : (singular : Singular) → (IsPrime m → GraphValue m graphs (sets_of learned) called chain (SingularAt singular.node singular.cause)) → IsPrime m → IsStopped (GraphValue m graphs (sets_of learned) called) ins singular.cause
@@ -176,6 +178,9 @@ module _ (base : ℕ) (old more words places : List ℕ) (parts : List Source) (
 
   pub lists_same : map (placed (drop base words) places) parts ≡ map (placed (drop base old) places) parts
   lists_same = ap (λ ws. map (placed ws places) parts) above_grown ∙ lists_grown (drop base old) more places parts there
+
+  pub behind_low : (m : ℕ) → All (λ x. x < m) (drop base old) → All (λ x. x < m) more → All (λ x. x < m) (drop base words)
+  behind_low m low more_low = All-same (λ x. x < m) _ _ above_grown (All-append (λ x. x < m) (drop base old) more low more_low)
 
 -- a list that stands between others, and the one behind it
 module _ (old values chain words : List ℕ) (top count : ℕ) (words_are : words ≡ (old ++ values) ++ chain) (top_is : length old ≡ top) (count_is : length values ≡ count) where

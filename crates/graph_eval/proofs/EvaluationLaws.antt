@@ -10,11 +10,14 @@ use Rattle.std.proofs.Math.ListN.{get_or-append}
 use Rattle.graph_file.specs.declared.graph.Graph.{Graph}
 use Rattle.graph_file.specs.declared.graph.Node.{Node}
 use Rattle.graph_file.specs.declared.graph.NodeKind.{NodeKind}
-use Rattle.graph_file.specs.declared.graph.NodeKind.TheVariants.{Eval, Take, Slice, Chain, Sum, Product, Matmul, Dense, Sparse, Call, Memo, Map}
+use Rattle.graph_file.specs.declared.graph.NodeKind.TheVariants.{Eval, Take, Slice, Chain, Sum, Product, Matmul, Dense, Sparse, Call, Memo, Map, Laurent}
 use Rattle.graph_file.specs.declared.graph.Source.{Source}
 use Rattle.graph_eval.specs.declared.outcome.Cause.{Cause}
 use Rattle.graph_eval.specs.GraphValue.{Meaning, Outcome, SingularAt, named, KindGives, KindFails, NodeGives, NodeFails, FirstLists, GraphMeans, GraphValue, MeansAt, meanings}
+use Rattle.basic_nodes.specs.Plain.{chained}
+use Rattle.graph_eval.specs.Expanded.{window_of}
 use Rattle.graph_eval.specs.Evaluated.{no_graphs}
+use Rattle.graph_eval.proofs.Columns.{some_inputs}
 use Rattle.graph_eval.specs.Learned.{sets_of}
 use Rattle.graph_eval.specs.declared.learned.GraphLearned.{GraphLearned}
 use Rattle.prime_field.specs.Residue.{IsPrime}
@@ -38,6 +41,7 @@ gives_alone m called learned list (Map graph parts) values gives = record {
   all = gives.all;
   values_are = gives.values_are;
 }
+gives_alone m called learned list (Laurent graph lo hi num den parts) values gives = absurd (gives.first.each 0 (omega (arith, gives.all, some_inputs (window_of lo hi num den) (chained (map list parts)))))
 
 pub fails_alone : (m : ℕ) (called : ℕ → Meaning) (learned : List ℕ) (list : Source → List ℕ) (kind : NodeKind) (cause : Cause) → KindFails m no_graphs learned list kind cause → KindFails m called learned list kind cause
 fails_alone m called learned list (Eval from exprs) cause fails = fails
@@ -52,6 +56,10 @@ fails_alone m called learned list (Sparse from unknowns want rows) cause fails =
 fails_alone m called learned list (Call graph parts) cause fails = absurd fails.1
 fails_alone m called learned list (Memo graph parts) cause fails = absurd fails.1
 fails_alone m called learned list (Map graph parts) cause fails = absurd fails.singular
+fails_alone m called learned list (Laurent graph lo hi num den parts) cause fails = elim fails [
+  | inl stopped ↦ absurd stopped.singular
+  | inr none ↦ absurd (none.first.each 0 (omega (arith, none.all, some_inputs (window_of lo hi num den) (chained (map list parts)))))
+]
 
 needed_alone : (m : ℕ) (called : ℕ → Meaning) (learned : List ℕ) (list : Source → List ℕ) (kind : NodeKind) (values : List ℕ) (needed : Bool) → MatchBool needed (KindGives m no_graphs learned list kind values) (values ≡ []) → MatchBool needed (KindGives m called learned list kind values) (values ≡ [])
 needed_alone m called learned list kind values true gives = gives_alone m called learned list kind values gives

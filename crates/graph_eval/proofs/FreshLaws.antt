@@ -16,12 +16,10 @@ use Rattle.graph_file.specs.Sound.{IsKind}
 use Rattle.graph_file.specs.declared.graph.Graph.{Graph}
 use Rattle.graph_file.specs.declared.graph.Node.{Node}
 use Rattle.graph_file.specs.declared.graph.NodeKind.{NodeKind}
-use Rattle.graph_eval.specs.declared.fresh.Fresh.{Fresh}
-use Rattle.graph_eval.specs.declared.fresh.Fresh.TheVariants as fresh
 use Rattle.graph_eval.specs.declared.learned.GraphLearned.{GraphLearned}
 use Rattle.graph_eval.specs.declared.outcome.Cause.{Cause}
 use Rattle.graph_eval.specs.Evaluated.{IsNeededNode}
-use Rattle.graph_eval.specs.Fresh.{BreaksLength, FirstLearned, HasNoValue, IsFresh, IsLearned, IsReached, NodeLearns}
+use Rattle.graph_eval.specs.Fresh.{BreaksLength, FirstLearned, HasNoValue, IsLearned, IsReached, NodeLearns}
 use Rattle.graph_eval.specs.GraphValue.{Meaning, NodeFails, NodeGives, named}
 use Rattle.graph_file.specs.declared.graph.Source.{Source}
 use Rattle.graph_eval.specs.Reading.{AreListed, IsThere, placed, places_of}

@@ -16,7 +16,7 @@ use Rattle.sparse_solver.specs.Plan.{Plan}
 use Rattle.graph_file.specs.declared.graph.Graph.{Graph}
 use Rattle.graph_file.specs.declared.graph.Node.{Node}
 use Rattle.graph_file.specs.declared.graph.NodeKind.{NodeKind}
-use Rattle.graph_file.specs.declared.graph.NodeKind.TheVariants.{Eval, Take, Slice, Chain, Sum, Product, Matmul, Dense, Sparse, Call, Memo, Map}
+use Rattle.graph_file.specs.declared.graph.NodeKind.TheVariants.{Eval, Take, Slice, Chain, Sum, Product, Matmul, Dense, Sparse, Call, Memo, Map, Laurent}
 use Rattle.graph_eval.specs.Learned.{AreEmpty, AreNone, ArePlans, FirstLengths, FitsGraph, FailsLength, IsSetFor, has_solver, is_solver, is_system, kind_plan, named_length, node_length, plan_of}
 use Rattle.graph_eval.proofs.ShapeLaws.{empty_set_for}
 use Rattle.graph_eval.specs.declared.shapes.GraphSize.{GraphSize}
@@ -146,6 +146,7 @@ plain_plan true (Matmul left right rows mid cols) set plain = refl
 plain_plan true (Call graph parts) set plain = refl
 plain_plan true (Memo graph parts) set plain = refl
 plain_plan true (Map graph parts) set plain = refl
+plain_plan true (Laurent graph lo hi num den parts) set plain = refl
 plain_plan true (Dense from rows unknowns want) set plain = refl
 plain_plan true (Sparse from unknowns want rows) set plain = absurd (false≢true (sym plain))
 

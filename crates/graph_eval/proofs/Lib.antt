@@ -1,6 +1,9 @@
 mod Calling
 mod Adding
+pub mod Columns
 pub mod EvaluationLaws
+pub mod ExpandedCall
+pub mod Expanding
 pub mod Fitting
 mod Framed
 mod FreshLaws
@@ -15,6 +18,7 @@ pub mod OneValue
 mod Memoing
 mod OwnLaws
 pub mod Places
+pub mod Quotients
 mod Remembered
 mod Room
 mod ShapeLaws

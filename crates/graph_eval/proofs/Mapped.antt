@@ -4,7 +4,7 @@ use Rattle.std.specs.Prelude.{slice_index_or}
 use Rattle.std.proofs.Math.Seq.{take-suc, take-length}
 use Rattle.basic_nodes.specs.Plain.{chained}
 use Rattle.graph_eval.specs.declared.outcome.Cause.{Cause}
-use Rattle.graph_eval.specs.GraphValue.{GivesFirst, IsMapped, IsOnce, IsStopped, Meaning, Outcome, SingularAt, Value}
+use Rattle.graph_eval.specs.GraphValue.{GivesFirst, IsMapped, IsOnce, IsStopped, Meaning, SingularAt, Value}
 
 module _ (called : Meaning) (ins : List (List ℕ)) (once : IsOnce called) where
   -- what it gives on the first lists is the same as far as both go
@@ -18,17 +18,19 @@ module _ (called : Meaning) (ins : List (List ℕ)) (once : IsOnce called) where
       let same : get_or outs n [] ≡ get_or others n [] = cc in
       take-suc outs n [] below ∙ ap (λ ls. ls ++ get_or outs n [] ∷ []) before ∙ ap (λ x. take n others ++ x ∷ []) same ∙ sym (take-suc others n [] below_others)
 
+  pub outs_same : (outs others : List (List ℕ)) → GivesFirst called ins outs → GivesFirst called ins others → length outs ≡ length others → outs ≡ others
+  outs_same outs others first second many =
+      sym (take-length outs) ∙ agree outs others first second (length outs) (omega arith) (omega arith) ∙ ap (λ n. take n others) many ∙ take-length others
+
   -- it isn't singular on a list on which it has a value
-  no_clash : (outs others : List (List ℕ)) (node : ℕ) (cause : Cause) → GivesFirst called ins outs → length others < length outs → called (slice_index_or ins (length others) []) (SingularAt node cause) → ⊥
+  pub no_clash : (outs others : List (List ℕ)) (node : ℕ) (cause : Cause) → GivesFirst called ins outs → length others < length outs → called (slice_index_or ins (length others) []) (SingularAt node cause) → ⊥
   no_clash outs others node cause first longer singular =
       let both : Value (slice_index_or outs (length others) []) ≡ SingularAt node cause = once.once (slice_index_or ins (length others) []) _ _ (first.each (length others) longer) singular in
       cc
 
   pub mapped_once : (xs ys : List ℕ) → IsMapped called ins xs → IsMapped called ins ys → xs ≡ ys
   mapped_once xs ys one other =
-      let many : length one.outs ≡ length other.outs = one.all ∙ sym other.all in
-      let same : one.outs ≡ other.outs =
-      sym (take-length one.outs) ∙ agree one.outs other.outs one.first other.first (length one.outs) (omega arith) (omega arith) ∙ ap (λ n. take n other.outs) many ∙ take-length other.outs in
+      let same : one.outs ≡ other.outs = outs_same one.outs other.outs one.first other.first (one.all ∙ sym other.all) in
       one.values_are ∙ ap chained same ∙ sym other.values_are
 
   pub mapped_or_stopped : (xs : List ℕ) (cause : Cause) → IsMapped called ins xs → IsStopped called ins cause → ⊥

@@ -9,7 +9,7 @@ use Rattle.elim_core.proofs.OwnSets.{own_set_once}
 use Rattle.graph_file.specs.declared.graph.Graph.{Graph}
 use Rattle.graph_file.specs.declared.graph.Node.{Node}
 use Rattle.graph_file.specs.declared.graph.NodeKind.{NodeKind}
-use Rattle.graph_file.specs.declared.graph.NodeKind.TheVariants.{Eval, Take, Slice, Chain, Sum, Product, Matmul, Dense, Sparse, Call, Memo, Map}
+use Rattle.graph_file.specs.declared.graph.NodeKind.TheVariants.{Eval, Take, Slice, Chain, Sum, Product, Matmul, Dense, Sparse, Call, Memo, Map, Laurent}
 use Rattle.graph_file.specs.declared.graph.Source.{Source}
 use Rattle.graph_eval.specs.declared.fresh.Fresh.{Fresh}
 use Rattle.graph_eval.specs.declared.fresh.Fresh.TheVariants as fresh
@@ -41,6 +41,7 @@ kind_learns m list (Matmul left right rows mid cols) a b first second = first �
 kind_learns m list (Call graph parts) a b first second = first ∙ sym second
 kind_learns m list (Memo graph parts) a b first second = first ∙ sym second
 kind_learns m list (Map graph parts) a b first second = first ∙ sym second
+kind_learns m list (Laurent graph lo hi num den parts) a b first second = first ∙ sym second
 kind_learns m list (Dense from rows unknowns want) a b first second = own_of_once m unknowns (rows_in rows unknowns (list from)) (length (list from) == rows * (unknowns + 1)) a b first second
 kind_learns m list (Sparse from unknowns want rows) a b first second = own_of_once m unknowns (rows_with unknowns rows (list from)) (length (list from) == entries_of rows) a b first second
 
@@ -123,7 +124,7 @@ module _ (sizes : List GraphSize) where
 
     not_singular : (one : Walk m called graph inputs) (n : ℕ) (cause : Cause) → n < length one.lists → HasNoValue m called sizes graph inputs n cause → ⊥
     not_singular one n cause below is =
-        node_clash m called is.reached.set (named inputs is.reached.lists) is.reached.node.kind is.reached.node.needed (slice_index_or one.lists n []) cause once (passed one n is.reached below).gives is.fails.0 is.fails.1
+        node_clash m called is.reached.set (named inputs is.reached.lists) is.reached.node.kind is.reached.node.needed (slice_index_or one.lists n []) cause large once (passed one n is.reached below).gives is.fails.0 is.fails.1
 
     reached_low : (n : ℕ) → IsReached m called sizes graph inputs n → n < length graph.nodes
     reached_low n reached = slice_get_within graph.nodes n reached.node reached.is_node
@@ -167,7 +168,7 @@ module _ (sizes : List GraphSize) where
         let fails = subst (λ (o : Node). NodeFails m called first.reached.set (named inputs first.reached.lists) o b) (sym same.node)
         (subst (λ (ls : List (List ℕ)). NodeFails m called first.reached.set (named inputs ls) second.reached.node b) (sym same.lists)
         (subst (λ (s : List ℕ). NodeFails m called s (named inputs second.reached.lists) second.reached.node b) (sym same.set) second.fails)) in
-        kind_fails m called first.reached.set (named inputs first.reached.lists) first.reached.node.kind a b once first.fails.1 fails.1
+        kind_fails m called first.reached.set (named inputs first.reached.lists) first.reached.node.kind a b large once first.fails.1 fails.1
 
     -- the first node that fails is one
     at_once : (n k : ℕ) → (k < n → ⊥) → (n < k → ⊥) → n ≡ k

@@ -9,7 +9,7 @@ use Rattle.sparse_solver.specs.Plan.{Plan}
 use Rattle.graph_file.specs.declared.graph.Graph.{Graph}
 use Rattle.graph_file.specs.declared.graph.Node.{Node}
 use Rattle.graph_file.specs.declared.graph.NodeKind.{NodeKind}
-use Rattle.graph_file.specs.declared.graph.NodeKind.TheVariants.{Eval, Take, Slice, Chain, Sum, Product, Matmul, Dense, Sparse, Call, Memo, Map}
+use Rattle.graph_file.specs.declared.graph.NodeKind.TheVariants.{Eval, Take, Slice, Chain, Sum, Product, Matmul, Dense, Sparse, Call, Memo, Map, Laurent}
 use Rattle.graph_eval.specs.declared.fresh.Fresh.{Fresh}
 use Rattle.graph_eval.specs.declared.fresh.Fresh.TheVariants as fresh
 use Rattle.graph_eval.specs.declared.learned.GraphLearned.{GraphLearned}
@@ -32,6 +32,7 @@ plain_set true (Matmul left right rows mid cols) set plain none = none
 plain_set true (Call graph parts) set plain none = none
 plain_set true (Memo graph parts) set plain none = none
 plain_set true (Map graph parts) set plain none = none
+plain_set true (Laurent graph lo hi num den parts) set plain none = none
 plain_set true (Dense from rows unknowns want) set plain learned = absurd (false≢true (sym plain))
 plain_set true (Sparse from unknowns want rows) set plain learned = absurd (false≢true (sym plain))
 

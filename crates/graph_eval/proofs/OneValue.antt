@@ -9,11 +9,13 @@ use Rattle.elim_core.proofs.OwnSets.{solved_once}
 use Rattle.graph_file.specs.declared.graph.Graph.{Graph}
 use Rattle.graph_file.specs.declared.graph.Node.{Node}
 use Rattle.graph_file.specs.declared.graph.NodeKind.{NodeKind}
-use Rattle.graph_file.specs.declared.graph.NodeKind.TheVariants.{Eval, Take, Slice, Chain, Sum, Product, Matmul, Dense, Sparse, Call, Memo, Map}
+use Rattle.graph_file.specs.declared.graph.NodeKind.TheVariants.{Eval, Take, Slice, Chain, Sum, Product, Matmul, Dense, Sparse, Call, Memo, Map, Laurent}
 use Rattle.graph_file.specs.declared.graph.Source.{Source}
 use Rattle.graph_eval.specs.declared.outcome.Cause.{Cause}
 use Rattle.graph_eval.specs.Systems.{rows_in}
 use Rattle.basic_nodes.specs.Plain.{chained}
+use Rattle.graph_eval.specs.Expanded.{window_of}
+use Rattle.graph_eval.proofs.Expanding.{expanded_once, expanded_or_not, not_expanded_once}
 use Rattle.graph_eval.proofs.Mapped.{mapped_once, mapped_or_stopped, stopped_once}
 use Rattle.graph_eval.proofs.Places.{stands}
 use Rattle.graph_eval.specs.GraphValue.{IsOnce, Meaning, Outcome, Value, SingularAt, choose, named, KindGives, KindFails, NodeGives, NodeFails, FirstLists, IsValue, IsSingular, GraphMeans, GraphValue, MeansAt, meanings}
@@ -32,42 +34,45 @@ kind_gives m called learned list (Sparse from unknowns want rows) xs ys large on
 kind_gives m called learned list (Call graph parts) xs ys large once first second = let both : Value xs ≡ Value ys = (once graph).once (chained (map list parts)) _ _ first second in cc
 kind_gives m called learned list (Memo graph parts) xs ys large once first second = let both : Value xs ≡ Value ys = (once graph).once (chained (map list parts)) _ _ first second in cc
 kind_gives m called learned list (Map graph parts) xs ys large once first second = mapped_once (called graph) (map list parts) (once graph) xs ys first second
+kind_gives m called learned list (Laurent graph lo hi num den parts) xs ys large once first second = expanded_once m (window_of lo hi num den) large (called graph) (chained (map list parts)) (once graph) xs ys first second
 
-pub kind_fails : (m : ℕ) (called : ℕ → Meaning) (learned : List ℕ) (list : Source → List ℕ) (kind : NodeKind) (a b : Cause) → ((k : ℕ) → IsOnce (called k)) → KindFails m called learned list kind a → KindFails m called learned list kind b → a ≡ b
-kind_fails m called learned list (Eval from exprs) a b once first second = first.1 ∙ sym second.1
-kind_fails m called learned list (Take parts) a b once first second = absurd first
-kind_fails m called learned list (Slice from first_place last) a b once first second = absurd first
-kind_fails m called learned list (Chain parts) a b once first second = absurd first
-kind_fails m called learned list (Sum parts) a b once first second = absurd first
-kind_fails m called learned list (Product parts) a b once first second = absurd first
-kind_fails m called learned list (Matmul left right rows mid cols) a b once first second = absurd first
-kind_fails m called learned list (Dense from rows unknowns want) a b once first second = first.1 ∙ sym second.1
-kind_fails m called learned list (Sparse from unknowns want rows) a b once first second = first.1 ∙ sym second.1
-kind_fails m called learned list (Call graph parts) a b once first second = let both : SingularAt first.0 a ≡ SingularAt second.0 b = (once graph).once (chained (map list parts)) _ _ first.1 second.1 in cc
-kind_fails m called learned list (Memo graph parts) a b once first second = let both : SingularAt first.0 a ≡ SingularAt second.0 b = (once graph).once (chained (map list parts)) _ _ first.1 second.1 in cc
-kind_fails m called learned list (Map graph parts) a b once first second = stopped_once (called graph) (map list parts) (once graph) a b first second
+pub kind_fails : (m : ℕ) (called : ℕ → Meaning) (learned : List ℕ) (list : Source → List ℕ) (kind : NodeKind) (a b : Cause) → 1 < m → ((k : ℕ) → IsOnce (called k)) → KindFails m called learned list kind a → KindFails m called learned list kind b → a ≡ b
+kind_fails m called learned list (Eval from exprs) a b large once first second = first.1 ∙ sym second.1
+kind_fails m called learned list (Take parts) a b large once first second = absurd first
+kind_fails m called learned list (Slice from first_place last) a b large once first second = absurd first
+kind_fails m called learned list (Chain parts) a b large once first second = absurd first
+kind_fails m called learned list (Sum parts) a b large once first second = absurd first
+kind_fails m called learned list (Product parts) a b large once first second = absurd first
+kind_fails m called learned list (Matmul left right rows mid cols) a b large once first second = absurd first
+kind_fails m called learned list (Dense from rows unknowns want) a b large once first second = first.1 ∙ sym second.1
+kind_fails m called learned list (Sparse from unknowns want rows) a b large once first second = first.1 ∙ sym second.1
+kind_fails m called learned list (Call graph parts) a b large once first second = let both : SingularAt first.0 a ≡ SingularAt second.0 b = (once graph).once (chained (map list parts)) _ _ first.1 second.1 in cc
+kind_fails m called learned list (Memo graph parts) a b large once first second = let both : SingularAt first.0 a ≡ SingularAt second.0 b = (once graph).once (chained (map list parts)) _ _ first.1 second.1 in cc
+kind_fails m called learned list (Map graph parts) a b large once first second = stopped_once (called graph) (map list parts) (once graph) a b first second
+kind_fails m called learned list (Laurent graph lo hi num den parts) a b large once first second = not_expanded_once m (window_of lo hi num den) large (called graph) (chained (map list parts)) (once graph) a b first second
 
-kind_clash : (m : ℕ) (called : ℕ → Meaning) (learned : List ℕ) (list : Source → List ℕ) (kind : NodeKind) (xs : List ℕ) (cause : Cause) → ((k : ℕ) → IsOnce (called k)) → KindGives m called learned list kind xs → KindFails m called learned list kind cause → ⊥
-kind_clash m called learned list (Eval from exprs) xs cause once gives fails = let both : Some xs ≡ None = sym gives ∙ fails.0 in cc
-kind_clash m called learned list (Take parts) xs cause once gives fails = absurd fails
-kind_clash m called learned list (Slice from first_place last) xs cause once gives fails = absurd fails
-kind_clash m called learned list (Chain parts) xs cause once gives fails = absurd fails
-kind_clash m called learned list (Sum parts) xs cause once gives fails = absurd fails
-kind_clash m called learned list (Product parts) xs cause once gives fails = absurd fails
-kind_clash m called learned list (Matmul left right rows mid cols) xs cause once gives fails = absurd fails
-kind_clash m called learned list (Dense from rows unknowns want) xs cause once gives fails = fails.0 (record { multiples = gives.solved.c; constant = gives.solved.d; tells = gives.solved.tells })
-kind_clash m called learned list (Sparse from unknowns want rows) xs cause once gives fails = fails.0 (record { multiples = gives.solved.c; constant = gives.solved.d; tells = gives.solved.tells })
-kind_clash m called learned list (Call graph parts) xs cause once gives fails = let both : Value xs ≡ SingularAt fails.0 cause = (once graph).once (chained (map list parts)) _ _ gives fails.1 in cc
-kind_clash m called learned list (Memo graph parts) xs cause once gives fails = let both : Value xs ≡ SingularAt fails.0 cause = (once graph).once (chained (map list parts)) _ _ gives fails.1 in cc
-kind_clash m called learned list (Map graph parts) xs cause once gives fails = mapped_or_stopped (called graph) (map list parts) (once graph) xs cause gives fails
+kind_clash : (m : ℕ) (called : ℕ → Meaning) (learned : List ℕ) (list : Source → List ℕ) (kind : NodeKind) (xs : List ℕ) (cause : Cause) → 1 < m → ((k : ℕ) → IsOnce (called k)) → KindGives m called learned list kind xs → KindFails m called learned list kind cause → ⊥
+kind_clash m called learned list (Eval from exprs) xs cause large once gives fails = let both : Some xs ≡ None = sym gives ∙ fails.0 in cc
+kind_clash m called learned list (Take parts) xs cause large once gives fails = absurd fails
+kind_clash m called learned list (Slice from first_place last) xs cause large once gives fails = absurd fails
+kind_clash m called learned list (Chain parts) xs cause large once gives fails = absurd fails
+kind_clash m called learned list (Sum parts) xs cause large once gives fails = absurd fails
+kind_clash m called learned list (Product parts) xs cause large once gives fails = absurd fails
+kind_clash m called learned list (Matmul left right rows mid cols) xs cause large once gives fails = absurd fails
+kind_clash m called learned list (Dense from rows unknowns want) xs cause large once gives fails = fails.0 (record { multiples = gives.solved.c; constant = gives.solved.d; tells = gives.solved.tells })
+kind_clash m called learned list (Sparse from unknowns want rows) xs cause large once gives fails = fails.0 (record { multiples = gives.solved.c; constant = gives.solved.d; tells = gives.solved.tells })
+kind_clash m called learned list (Call graph parts) xs cause large once gives fails = let both : Value xs ≡ SingularAt fails.0 cause = (once graph).once (chained (map list parts)) _ _ gives fails.1 in cc
+kind_clash m called learned list (Memo graph parts) xs cause large once gives fails = let both : Value xs ≡ SingularAt fails.0 cause = (once graph).once (chained (map list parts)) _ _ gives fails.1 in cc
+kind_clash m called learned list (Map graph parts) xs cause large once gives fails = mapped_or_stopped (called graph) (map list parts) (once graph) xs cause gives fails
+kind_clash m called learned list (Laurent graph lo hi num den parts) xs cause large once gives fails = expanded_or_not m (window_of lo hi num den) large (called graph) (chained (map list parts)) (once graph) xs cause gives fails
 
 pub node_gives : (m : ℕ) (called : ℕ → Meaning) (learned : List ℕ) (list : Source → List ℕ) (kind : NodeKind) (needed : Bool) (xs ys : List ℕ) → 1 < m → ((k : ℕ) → IsOnce (called k)) → MatchBool needed (KindGives m called learned list kind xs) (xs ≡ []) → MatchBool needed (KindGives m called learned list kind ys) (ys ≡ []) → xs ≡ ys
 node_gives m called learned list kind true xs ys large once first second = kind_gives m called learned list kind xs ys large once first second
 node_gives m called learned list kind false xs ys large once first second = first ∙ sym second
 
-pub node_clash : (m : ℕ) (called : ℕ → Meaning) (learned : List ℕ) (list : Source → List ℕ) (kind : NodeKind) (needed : Bool) (xs : List ℕ) (cause : Cause) → ((k : ℕ) → IsOnce (called k)) → MatchBool needed (KindGives m called learned list kind xs) (xs ≡ []) → IsTrue needed → KindFails m called learned list kind cause → ⊥
-node_clash m called learned list kind true xs cause once gives needed fails = kind_clash m called learned list kind xs cause once gives fails
-node_clash m called learned list kind false xs cause once gives needed fails = false≢true needed
+pub node_clash : (m : ℕ) (called : ℕ → Meaning) (learned : List ℕ) (list : Source → List ℕ) (kind : NodeKind) (needed : Bool) (xs : List ℕ) (cause : Cause) → 1 < m → ((k : ℕ) → IsOnce (called k)) → MatchBool needed (KindGives m called learned list kind xs) (xs ≡ []) → IsTrue needed → KindFails m called learned list kind cause → ⊥
+node_clash m called learned list kind true xs cause large once gives needed fails = kind_clash m called learned list kind xs cause large once gives fails
+node_clash m called learned list kind false xs cause large once gives needed fails = false≢true needed
 
 -- two lists of what the first nodes give agree as far as both go
 module _ (m : ℕ) (called : ℕ → Meaning) (learned : List (List ℕ)) (nodes : List Node) (inputs : List ℕ) (large : 1 < m) (once : (k : ℕ) → IsOnce (called k)) where
@@ -90,7 +95,7 @@ module _ (m : ℕ) (called : ℕ → Meaning) (learned : List (List ℕ)) (nodes
       let n = length others in
       let before : take n lists ≡ others = agree lists others first second n (omega arith) (omega arith) ∙ take-length others in
       let gives = subst (λ (ls : List (List ℕ)). NodeGives m called (slice_index_or learned n []) (named inputs ls) node (slice_index_or lists n [])) before (first.each n node longer is) in
-      node_clash m called (slice_index_or learned n []) (named inputs others) node.kind node.needed (slice_index_or lists n []) cause once gives fails.0 fails.1
+      node_clash m called (slice_index_or learned n []) (named inputs others) node.kind node.needed (slice_index_or lists n []) cause large once gives fails.0 fails.1
 
   same_lists : (lists others : List (List ℕ)) → FirstLists m called learned nodes inputs lists → FirstLists m called learned nodes inputs others → length lists ≡ length others → lists ≡ others
   same_lists lists others first second same =
@@ -122,7 +127,7 @@ module _ (m : ℕ) (called : ℕ → Meaning) (learned : List (List ℕ)) (graph
       let nodes : Some first.node ≡ Some second.node = sym first.is_node ∙ second.is_node in
       let node : first.node ≡ second.node = cc in
       let fails = subst (λ (o : Node). NodeFails m called (slice_index_or learned n []) (named inputs first.lists) o b) (sym node) (subst (λ (ls : List (List ℕ)). NodeFails m called (slice_index_or learned n []) (named inputs ls) second.node b) (sym same) second.fails) in
-      kind_fails m called (slice_index_or learned n []) (named inputs first.lists) first.node.kind a b once first.fails.1 fails.1
+      kind_fails m called (slice_index_or learned n []) (named inputs first.lists) first.node.kind a b large once first.fails.1 fails.1
 
   means_once : (one other : Outcome) → GraphMeans m called learned graph inputs one → GraphMeans m called learned graph inputs other → one ≡ other
   means_once (Value xs) (Value ys) first second = ap Value (value_once xs ys first second)

@@ -1,5 +1,5 @@
 -- What a node's length says of the lists that it names.
-use Rattle.std.proofs.Common.{◌≡◌, Result, Ok, Err, ℕ, zero, suc, ◌+◌, ◌-◌, ◌*◌, ◌<◌, ◌≤◌, Bool, true, false, IsTrue, if◌then◌else◌, List, [], ◌∷◌, All, length, map, get_or, sum, Some, None, refl, sym, ◌∙◌, ap, subst, arith, inl, inr}
+use Rattle.std.proofs.Common.{◌≡◌, Result, Ok, Err, ℕ, ℤ, zero, suc, ◌+◌, ◌-◌, ◌*◌, ◌<◌, ◌≤◌, Bool, true, false, IsTrue, if◌then◌else◌, List, [], ◌∷◌, All, length, map, get_or, sum, Some, None, refl, sym, ◌∙◌, ap, subst, arith, inl, inr}
 use Rattle.std.specs.Prelude.{◌&&◌, ◌==◌, IfErr, OnOk, max, nat_le, option_map, slice_get}
 use Rattle.std.proofs.Math.Nat.{le-max_left, le-max_right, max-le, mul-le-mul_left, mul-le-mul_right}
 use Rattle.std.proofs.lemmas.Bool.{cases_eq, eqb-true, leb-true, false≢true}
@@ -22,9 +22,10 @@ use Rattle.graph_file.specs.Sound.{IsGraph, IsKind}
 use Rattle.graph_file.specs.declared.graph.Graph.{Graph}
 use Rattle.graph_file.specs.declared.graph.Node.{Node}
 use Rattle.graph_file.specs.declared.graph.NodeKind.{NodeKind}
-use Rattle.graph_file.specs.declared.graph.NodeKind.TheVariants.{Eval, Take, Slice, Chain, Sum, Product, Matmul, Dense, Sparse, Call, Memo, Map}
+use Rattle.graph_file.specs.declared.graph.NodeKind.TheVariants.{Eval, Take, Slice, Chain, Sum, Product, Matmul, Dense, Sparse, Call, Memo, Map, Laurent}
 use Rattle.graph_file.specs.declared.graph.Source.{Source}
 use Rattle.graph_file.specs.declared.graph.Source.TheVariants as source
+use Rattle.graph_eval.specs.Expanded.{orders_of, window_of}
 use Rattle.graph_eval.specs.Evaluated.{no_graphs}
 use Rattle.graph_eval.specs.GraphValue.{KindFails, KindGives}
 use Rattle.graph_eval.specs.declared.outcome.Cause.{Cause}
@@ -189,6 +190,19 @@ module _ (sizes : List GraphSize) (words places set : List ℕ) where
       pub map_outputs : own ≡ length parts * (size_at sizes graph).outputs
       map_outputs = sym (ruled_some (are_all size.inputs (map room parts)) (length (map room parts) * size.outputs) own has).1 ∙ ap (λ n. n * size.outputs) (length-map parts room)
 
+  -- a node that expands a graph has its inputs but the first, and its list has so many coefficients for each of its outputs
+  module _ (graph : ℕ) (lo hi : ℤ) (num den : ℕ) (parts : List Source) (own : ℕ) (has : listed_length sizes (placed words places) set (Laurent graph lo hi num den parts) ≡ Some own) where
+    abbrev orders : ℕ
+    orders = orders_of (window_of lo hi num den)
+
+    pub laurent_inputs : length (chained (map (placed words places) parts)) + 1 ≡ (size_at sizes graph).inputs
+    laurent_inputs =
+        ap (λ n. n + 1) (length-chained (map (placed words places) parts) ∙ sym (ap sum (rooms_are (placed words places) parts)))
+        ∙ eqb-true (sum (map room parts) + 1) (size_at sizes graph).inputs (ruled_some (sum (map room parts) + 1 == (size_at sizes graph).inputs) ((size_at sizes graph).outputs * orders) own has).0
+
+    pub laurent_outputs : own ≡ (size_at sizes graph).outputs * orders_of (window_of lo hi num den)
+    laurent_outputs = sym (ruled_some (sum (map room parts) + 1 == (size_at sizes graph).inputs) ((size_at sizes graph).outputs * orders) own has).1
+
 -- the greatest work is enough for each node
 greatest_each_work : (nodes : List Node) (n : ℕ) (node : Node) → slice_get nodes n ≡ Some node → work_of node ≤ greatest_work nodes
 greatest_each_work [] n node is = absurd (omega (arith, slice_get_within [] n node is))
@@ -239,6 +253,7 @@ work_bound variables place node is = when node.needed
     wants (Call graph parts) is = omega arith
     wants (Memo graph parts) is = omega arith
     wants (Map graph parts) is = omega arith
+    wants (Laurent graph lo hi num den parts) is = omega arith
     wants (Dense from rows unknowns want) is = product unknowns (omega (arith, is.unknowns_high))
     wants (Sparse from unknowns want rows) is = product unknowns is.unknowns_high
 

@@ -12,12 +12,12 @@ use Rattle.graph_file.proofs.KindFacts.{sources_earlier}
 use Rattle.graph_file.specs.declared.graph.Graph.{Graph}
 use Rattle.graph_file.specs.declared.graph.Node.{Node}
 use Rattle.graph_file.specs.declared.graph.NodeKind.{NodeKind}
-use Rattle.graph_file.specs.declared.graph.NodeKind.TheVariants.{Eval, Take, Slice, Chain, Sum, Product, Matmul, Dense, Sparse, Call, Memo, Map}
+use Rattle.graph_file.specs.declared.graph.NodeKind.TheVariants.{Eval, Take, Slice, Chain, Sum, Product, Matmul, Dense, Sparse, Call, Memo, Map, Laurent}
 use Rattle.graph_file.specs.declared.graph.Source.{Source}
 use Rattle.graph_file.specs.declared.graph.Source.TheVariants as source
 use Rattle.graph_eval.specs.declared.learned.GraphLearned.{GraphLearned}
 use Rattle.graph_eval.specs.Learned.{AreFew, IsKindSet, IsSetFor, named_length, shape_of, size_at, size_of, sizes_of}
-use Rattle.graph_eval.specs.Systems.{HasFewEntries, HasFewUnknowns}
+use Rattle.graph_eval.specs.Systems.{HasFewEntries, HasFewUnknowns, HasWindow}
 use Rattle.graph_eval.specs.declared.shapes.GraphSize.{GraphSize}
 
 -- what holds of what stands at each place holds of all
@@ -50,6 +50,7 @@ empty_kind_set (Matmul left right rows mid cols) = refl
 empty_kind_set (Call graph parts) = refl
 empty_kind_set (Memo graph parts) = refl
 empty_kind_set (Map graph parts) = refl
+empty_kind_set (Laurent graph lo hi num den parts) = refl
 empty_kind_set (Dense from rows unknowns want) = (λ i j order low. absurd (omega arith), λ i low. absurd (omega arith))
 empty_kind_set (Sparse from unknowns want rows) = (λ i j order low. absurd (omega arith), λ i low. absurd (omega arith))
 
@@ -92,6 +93,7 @@ shape_sound variables number sizes set (Sparse from unknowns want rows) few is l
 shape_sound variables number sizes set (Call graph parts) few is learned = omega (arith, few_at sizes graph few)
 shape_sound variables number sizes set (Memo graph parts) few is learned = omega (arith, few_at sizes graph few)
 shape_sound variables number sizes set (Map graph parts) few is learned = tt
+shape_sound variables number sizes set (Laurent graph lo hi num den parts) few is learned = omega (arith, few_at sizes graph few)
 
 -- a sound node names as many lists as its kind wants
 pub lists_sound : (variables number : ℕ) (sizes : List GraphSize) (set : List ℕ) (kind : NodeKind) → IsKind variables number kind → HasLists (shape_of sizes set kind) (length (sources_of kind))
@@ -105,6 +107,7 @@ lists_sound variables number sizes set (Matmul left right rows mid cols) is = re
 lists_sound variables number sizes set (Call graph parts) is = tt
 lists_sound variables number sizes set (Memo graph parts) is = tt
 lists_sound variables number sizes set (Map graph parts) is = tt
+lists_sound variables number sizes set (Laurent graph lo hi num den parts) is = tt
 lists_sound variables number sizes set (Dense from rows unknowns want) is = refl
 lists_sound variables number sizes set (Sparse from unknowns want rows) is = refl
 
@@ -138,6 +141,7 @@ few_unknowns variables number (Matmul left right rows mid cols) is = tt
 few_unknowns variables number (Call graph parts) is = tt
 few_unknowns variables number (Memo graph parts) is = tt
 few_unknowns variables number (Map graph parts) is = tt
+few_unknowns variables number (Laurent graph lo hi num den parts) is = tt
 few_unknowns variables number (Dense from rows unknowns want) is = omega (arith, is.unknowns_high)
 few_unknowns variables number (Sparse from unknowns want rows) is = is.unknowns_high
 
@@ -153,5 +157,22 @@ few_entries variables number (Matmul left right rows mid cols) is = tt
 few_entries variables number (Call graph parts) is = tt
 few_entries variables number (Memo graph parts) is = tt
 few_entries variables number (Map graph parts) is = tt
+few_entries variables number (Laurent graph lo hi num den parts) is = tt
 few_entries variables number (Dense from rows unknowns want) is = tt
 few_entries variables number (Sparse from unknowns want rows) is = is.filled.bounded
+
+-- and small degrees and orders
+pub has_window : (variables number : ℕ) (kind : NodeKind) → IsKind variables number kind → HasWindow kind
+has_window variables number (Eval from exprs) is = tt
+has_window variables number (Take parts) is = tt
+has_window variables number (Slice from first last) is = tt
+has_window variables number (Chain parts) is = tt
+has_window variables number (Sum parts) is = tt
+has_window variables number (Product parts) is = tt
+has_window variables number (Matmul left right rows mid cols) is = tt
+has_window variables number (Call graph parts) is = tt
+has_window variables number (Memo graph parts) is = tt
+has_window variables number (Map graph parts) is = tt
+has_window variables number (Dense from rows unknowns want) is = tt
+has_window variables number (Sparse from unknowns want rows) is = tt
+has_window variables number (Laurent graph lo hi num den parts) is = record { num = is.num_low; den = is.den_low; lowest = is.lowest; ordered = is.ordered; highest = is.highest }

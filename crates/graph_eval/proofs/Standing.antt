@@ -198,20 +198,20 @@ module _ (m : ℕ) (graphs : List Graph) (learned : List GraphLearned) (number b
   pub ready_inputs : length (drop base old.words) ≡ length graph.inputs
   ready_inputs = let long = ready.inputs graph is in let rest = length-drop base old.words in omega arith
 
-  pub ready_room : base + (length graph.inputs + sum entry.lengths + greatest_extra (words_below graphs learned number) graph.nodes) ≤ old.size
+  pub ready_room : base + (length graph.inputs + sum entry.lengths + greatest_extra (words_below graphs learned number) learned graph.nodes) ≤ old.size
   ready_room =
-      let words : words_for graphs learned number ≡ length graph.inputs + sum entry.lengths + greatest_extra (words_below graphs learned number) graph.nodes =
-      ap (λ o. words_at (words_below graphs learned number) o (slice_get learned number)) is ∙ ap (words_at (words_below graphs learned number) (Some graph)) entry_is in
+      let words : words_for graphs learned number ≡ length graph.inputs + sum entry.lengths + greatest_extra (words_below graphs learned number) learned graph.nodes =
+      ap (λ o. words_at (words_below graphs learned number) learned o (slice_get learned number)) is ∙ ap (words_at (words_below graphs learned number) learned (Some graph)) entry_is in
       let room = ready.room in
       omega arith
 
   module _ (sizes : List GraphSize) (last : Board) (places : List ℕ) (count : ℕ) (sound : IsGraph graph) (fits : FitsGraph sizes graph entry) (places_are : places ≡ places_of (length graph.inputs) entry.lengths)
       (stands : ListsStand m (meanings m graphs (sets_of learned) number) graph entry (take base old.words) (drop base old.words) last.words count) where
     -- the next node has room
-    pub node_room : (node : Node) → slice_get graph.nodes count ≡ Some node → CallsEarlier number graph → last.size ≡ old.size → length last.words + slice_index entry.lengths count + node_extra (words_for graphs learned) node ≤ last.size
+    pub node_room : (node : Node) → slice_get graph.nodes count ≡ Some node → CallsEarlier number graph → last.size ≡ old.size → length last.words + slice_index entry.lengths count + node_extra (words_for graphs learned) learned node ≤ last.size
     node_room node node_is earlier same =
         let extra = node_extra_same graphs learned number node (λ other at. earlier count node other node_is at) in
-        let most = greatest_at (words_below graphs learned number) graph.nodes count node node_is in
+        let most = greatest_at (words_below graphs learned number) learned graph.nodes count node node_is in
         let below = slice_get_within graph.nodes count node node_is in
         let end = stands_end m (meanings m graphs (sets_of learned) number) graph entry (take base old.words) (drop base old.words) last.words count base (length graph.inputs) stands ready_below ready_inputs in
         let sums = sum_to entry.lengths count (omega (arith, fits.all)) in

@@ -1,6 +1,6 @@
 -- What a worker has before a point and behind it.
-use Rattle.std.proofs.Common.{◌≡◌, ℕ, ◌<◌, ◌≤◌, List, [], ◌++◌, All, length, Option, Some, None, sym, ◌∙◌, ap, subst, arith}
-use Rattle.std.specs.Prelude.{slice_get, vec_len}
+use Rattle.std.proofs.Common.{◌≡◌, ℕ, ◌<◌, ◌≤◌, List, [], ◌++◌, All, length, Option, Some, None, ◌∙◌, ap, subst, arith}
+use Rattle.std.specs.Prelude.{slice_get}
 use Rattle.std.proofs.lemmas.List.Elements.{All-from_get_or, All-same}
 use Rattle.word_region.specs.Board.{Board}
 use Rattle.prime_field.specs.declared.Modulus.{Modulus}
@@ -11,15 +11,11 @@ use Rattle.graph_file.specs.declared.graph.Graph.{Graph}
 use Rattle.graph_eval.specs.declared.learned.GraphLearned.{GraphLearned}
 use Rattle.graph_eval.specs.declared.outcome.Outcome.TheVariants as answer
 use Rattle.graph_eval.specs.declared.outcome.Singular.{Singular}
-use Rattle.graph_eval.specs.declared.worker.Worker.{Worker}
 use Rattle.graph_eval.specs.Evaluated.{FitsOutcome, HasInputs, IsNeededAt}
-use Rattle.graph_eval.specs.Made.{IsMadeFor}
-use Rattle.graph_eval.specs.Learned.{sets_of}
 use Rattle.graph_eval.specs.declared.memos.MemoFrame.{MemoFrame}
 use Rattle.graph_eval.specs.Memos.{AreKept}
-use Rattle.graph_eval.specs.Needs.{AreTables, words_for}
+use Rattle.graph_eval.specs.Needs.{words_for}
 use Rattle.graph_eval.specs.Stacked.{IsReady}
-use Rattle.graph_eval.specs.Systems.{AreEnoughFor}
 
 -- a point's entries are residues of each modulus
 value_least : (m : Modulus) → 2305843009213693951 ≤ value_of m

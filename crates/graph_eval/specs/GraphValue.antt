@@ -1,5 +1,5 @@
 -- The value of a graph at a point, modulo m.
-use Rattle.std.specs.Prelude.{◌≡◌, ℕ, zero, suc, ◌-◌, ◌<◌, ◌≤◌, ◌==◌, Bool, true, false, IsTrue, MatchBool, List, [], length, map, take, slice_get, slice_index_or, Option, Some, None}
+use Rattle.std.specs.Prelude.{◌≡◌, ℕ, ◌⊎◌, zero, suc, ◌-◌, ◌<◌, ◌≤◌, ◌==◌, Bool, true, false, IsTrue, MatchBool, List, [], length, map, take, slice_get, slice_index_or, Option, Some, None}
 use Rattle.elim_core.specs.Solved.{IsSolved}
 use Rattle.elim_core.specs.Solver.{HasSolverValue}
 use Rattle.elim_core.specs.Sparse.{rows_with}
@@ -9,12 +9,14 @@ use Rattle.graph_file.specs.Line.{all_of}
 use Rattle.graph_file.specs.declared.graph.Graph.{Graph}
 use Rattle.graph_file.specs.declared.graph.Node.{Node}
 use Rattle.graph_file.specs.declared.graph.NodeKind.{NodeKind}
-use Rattle.graph_file.specs.declared.graph.NodeKind.TheVariants.{Eval, Take, Slice, Chain, Sum, Product, Matmul, Dense, Sparse, Call, Memo, Map}
+use Rattle.graph_file.specs.declared.graph.NodeKind.TheVariants.{Eval, Take, Slice, Chain, Sum, Product, Matmul, Dense, Sparse, Call, Memo, Map, Laurent}
 use Rattle.graph_file.specs.declared.graph.Source.{Source}
 use Rattle.graph_file.specs.declared.graph.Source.TheVariants as source
 use Rattle.graph_eval.specs.declared.outcome.Cause.{Cause}
 use Rattle.graph_eval.specs.declared.outcome.Cause.TheVariants.{Division, System}
+use Rattle.graph_eval.specs.Expanded.{FailsToExpand, IsExpandedFrom, column, expansion_inputs, width_of, window_of}
 use Rattle.graph_eval.specs.Systems.{rows_in}
+use Rattle.graph_eval.specs.declared.expansion.Window.{Window}
 
 -- what a graph gives at a point: the list of its output, or the first needed node without a value and the cause
 pub data Outcome : Type 0 where
@@ -54,6 +56,30 @@ pub record IsStopped (called : Meaning) (ins : List (List ℕ)) (cause : Cause) 
   pub node : ℕ
   pub singular : called (slice_index_or ins (length outs) []) (SingularAt node cause)
 
+-- a graph has a value at each point, and these are the expansions of its outputs one after the other
+pub record IsExpanded (m : ℕ) (window : Window) (called : Meaning) (rest values : List ℕ) : Type 0 where
+  pub outs : List (List ℕ)
+  pub first : GivesFirst called (expansion_inputs window rest) outs
+  pub all : length outs ≡ length (expansion_inputs window rest)
+  pub lists : List (List ℕ)
+  pub many : length lists ≡ width_of outs
+  pub each : (k : ℕ) → k < length lists → IsExpandedFrom m window (column k outs) (slice_index_or lists k [])
+  pub values_are : values ≡ chained lists
+
+-- a graph has a value at each point, and its first outputs have expansions, but the next has none, for this cause
+pub record HasNoExpansion (m : ℕ) (window : Window) (called : Meaning) (rest : List ℕ) (cause : Cause) : Type 0 where
+  pub outs : List (List ℕ)
+  pub first : GivesFirst called (expansion_inputs window rest) outs
+  pub all : length outs ≡ length (expansion_inputs window rest)
+  pub lists : List (List ℕ)
+  pub each : (k : ℕ) → k < length lists → IsExpandedFrom m window (column k outs) (slice_index_or lists k [])
+  pub before : length lists < width_of outs
+  pub fails : FailsToExpand m window (column (length lists) outs) cause
+
+-- a graph is singular at one of the points, or an output has no expansion, for this cause
+abbrev pub IsNotExpanded : ℕ → Window → Meaning → List ℕ → Cause → Type 0
+IsNotExpanded m window called rest cause = IsStopped called (expansion_inputs window rest) cause ⊎ HasNoExpansion m window called rest cause
+
 -- A node of this kind has these values, on the lists that its sources name. `called` is what the earlier
 -- graphs of the file mean, and `learned` holds the unknowns that were learned for the node.
 abbrev pub KindGives : ℕ → (ℕ → Meaning) → List ℕ → (Source → List ℕ) → NodeKind → List ℕ → Type 0
@@ -69,6 +95,7 @@ KindGives m called learned list (Sparse from unknowns want rows) values = IsSolv
 KindGives m called learned list (Call graph parts) values = called graph (chained (map list parts)) (Value values)
 KindGives m called learned list (Memo graph parts) values = called graph (chained (map list parts)) (Value values)
 KindGives m called learned list (Map graph parts) values = IsMapped (called graph) (map list parts) values
+KindGives m called learned list (Laurent graph lo hi num den parts) values = IsExpanded m (window_of lo hi num den) (called graph) (chained (map list parts)) values
 
 -- A node of this kind has no value, for this cause.
 abbrev pub KindFails : ℕ → (ℕ → Meaning) → List ℕ → (Source → List ℕ) → NodeKind → Cause → Type 0
@@ -84,6 +111,7 @@ KindFails m called learned list (Sparse from unknowns want rows) cause = (HasSol
 KindFails m called learned list (Call graph parts) cause = (node : ℕ) × called graph (chained (map list parts)) (SingularAt node cause)
 KindFails m called learned list (Memo graph parts) cause = (node : ℕ) × called graph (chained (map list parts)) (SingularAt node cause)
 KindFails m called learned list (Map graph parts) cause = IsStopped (called graph) (map list parts) cause
+KindFails m called learned list (Laurent graph lo hi num den parts) cause = IsNotExpanded m (window_of lo hi num den) (called graph) (chained (map list parts)) cause
 
 -- a node that is needed gives its value, and one that isn't is left out and gives nothing
 abbrev pub NodeGives : ℕ → (ℕ → Meaning) → List ℕ → (Source → List ℕ) → Node → List ℕ → Type 0

@@ -16,9 +16,10 @@ use Rattle.graph_file.specs.Sound.{CallsEarlier, IsGraph, IsKind}
 use Rattle.graph_file.specs.declared.graph.Graph.{Graph}
 use Rattle.graph_file.specs.declared.graph.Node.{Node}
 use Rattle.graph_file.specs.declared.graph.NodeKind.{NodeKind}
-use Rattle.graph_file.specs.declared.graph.NodeKind.TheVariants.{Eval, Take, Slice, Chain, Sum, Product, Matmul, Dense, Sparse, Call, Memo, Map}
+use Rattle.graph_file.specs.declared.graph.NodeKind.TheVariants.{Eval, Take, Slice, Chain, Sum, Product, Matmul, Dense, Sparse, Call, Memo, Map, Laurent}
 use Rattle.graph_file.specs.declared.graph.Source.{Source}
 use Rattle.graph_file.specs.declared.graph.Source.TheVariants as source
+use Rattle.graph_eval.specs.Expanded.{orders_of, window_of}
 use Rattle.graph_eval.specs.declared.learned.GraphLearned.{GraphLearned}
 use Rattle.graph_eval.specs.declared.shapes.GraphSize.{GraphSize}
 
@@ -69,6 +70,7 @@ shape_of sizes set (Sparse from unknowns want rows) = shape.Solver (entries_of r
 shape_of sizes set (Call graph parts) = shape.Call (size_at sizes graph).inputs (size_at sizes graph).outputs
 shape_of sizes set (Memo graph parts) = shape.Call (size_at sizes graph).inputs (size_at sizes graph).outputs
 shape_of sizes set (Map graph parts) = shape.Map (size_at sizes graph).inputs (size_at sizes graph).outputs
+shape_of sizes set (Laurent graph lo hi num den parts) = shape.Laurent (size_at sizes graph).inputs (size_at sizes graph).outputs (orders_of (window_of lo hi num den))
 
 -- the length of the list that a source names, where there are so many inputs and the nodes have these lengths
 abbrev pub named_length : ℕ → List ℕ → Source → ℕ

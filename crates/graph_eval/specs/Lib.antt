@@ -1,4 +1,5 @@
 pub mod Evaluated
+pub mod Expanded
 pub mod Fresh
 pub mod GraphValue
 pub mod Learned

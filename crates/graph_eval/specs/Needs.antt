@@ -3,55 +3,61 @@ use Rattle.std.specs.Prelude.{◌≡◌, ℕ, zero, suc, ◌+◌, ◌*◌, ◌==
 use Rattle.graph_file.specs.declared.graph.Graph.{Graph}
 use Rattle.graph_file.specs.declared.graph.Node.{Node}
 use Rattle.graph_file.specs.declared.graph.NodeKind.{NodeKind}
-use Rattle.graph_file.specs.declared.graph.NodeKind.TheVariants.{Dense, Sparse, Call, Memo, Map}
+use Rattle.graph_file.specs.declared.graph.NodeKind.TheVariants.{Dense, Sparse, Call, Memo, Map, Laurent}
 use Rattle.graph_eval.specs.declared.learned.GraphLearned.{GraphLearned}
 use Rattle.graph_eval.specs.GraphValue.{main_number}
 use Rattle.graph_eval.specs.Reading.{places_of}
 
+-- how many entries the output of a graph has, as was learned
+abbrev pub output_at : Option GraphLearned → ℕ
+output_at None = 0
+output_at (Some entry) = entry.output
+
+-- how many words are wanted to expand so many outputs from their values at so many points: these values, and work for one
+abbrev pub expansion_words : ℕ → ℕ → ℕ
+expansion_words points outputs = points * outputs + 12 * (points + 2)
+
 -- how many words a node of this kind wants beside its list, where the graphs before its own want so many
-abbrev pub extra_of : (ℕ → ℕ) → NodeKind → ℕ
-extra_of words (Dense from rows unknowns want) = (unknowns + 4) * (unknowns + 2)
-extra_of words (Sparse from unknowns want rows) = (unknowns + 4) * (unknowns + 2)
-extra_of words (Call graph parts) = words graph
-extra_of words (Memo graph parts) = words graph
-extra_of words (Map graph parts) = words graph
-extra_of words kind = 0
+abbrev pub extra_of : (ℕ → ℕ) → List GraphLearned → NodeKind → ℕ
+extra_of words learned (Dense from rows unknowns want) = (unknowns + 4) * (unknowns + 2)
+extra_of words learned (Sparse from unknowns want rows) = (unknowns + 4) * (unknowns + 2)
+extra_of words learned (Call graph parts) = words graph
+extra_of words learned (Memo graph parts) = words graph
+extra_of words learned (Map graph parts) = words graph
+extra_of words learned (Laurent graph lo hi num den parts) = words graph + expansion_words (num + den + 3) (output_at (slice_get learned graph))
+extra_of words learned kind = 0
 
 -- the same, where a node that isn't needed wants none
-abbrev pub node_extra : (ℕ → ℕ) → Node → ℕ
-node_extra words node = if node.needed then extra_of words node.kind else 0
+abbrev pub node_extra : (ℕ → ℕ) → List GraphLearned → Node → ℕ
+node_extra words learned node = if node.needed then extra_of words learned node.kind else 0
 
 -- the most that one of these nodes wants
-abbrev pub greatest_extra : (ℕ → ℕ) → List Node → ℕ
-greatest_extra words [] = 0
-greatest_extra words (node ∷ nodes) = max (node_extra words node) (greatest_extra words nodes)
+abbrev pub greatest_extra : (ℕ → ℕ) → List GraphLearned → List Node → ℕ
+greatest_extra words learned [] = 0
+greatest_extra words learned (node ∷ nodes) = max (node_extra words learned node) (greatest_extra words learned nodes)
 
 -- a graph needs words for its inputs, for the lists of its needed nodes, and as many more as one of these wants
-abbrev pub graph_words : (ℕ → ℕ) → Graph → GraphLearned → ℕ
-graph_words words graph learned = length graph.inputs + sum learned.lengths + greatest_extra words graph.nodes
+abbrev pub graph_words : (ℕ → ℕ) → List GraphLearned → Graph → GraphLearned → ℕ
+graph_words words learned graph entry = length graph.inputs + sum entry.lengths + greatest_extra words learned graph.nodes
 
-abbrev pub words_at : (ℕ → ℕ) → Option Graph → Option GraphLearned → ℕ
-words_at words (Some graph) (Some learned) = graph_words words graph learned
-words_at words (Some graph) None = 0
-words_at words None learned = 0
+abbrev pub words_at : (ℕ → ℕ) → List GraphLearned → Option Graph → Option GraphLearned → ℕ
+words_at words learned (Some graph) (Some entry) = graph_words words learned graph entry
+words_at words learned (Some graph) None = 0
+words_at words learned None entry = 0
 
 -- how many words the first graphs of a file need, by their number in it: each rests on those before it alone
 abbrev pub words_below : List Graph → List GraphLearned → ℕ → ℕ → ℕ
 words_below graphs learned zero number = 0
-words_below graphs learned (suc count) number = if number == count then words_at (words_below graphs learned count) (slice_get graphs count) (slice_get learned count) else words_below graphs learned count number
+words_below graphs learned (suc count) number = if number == count then words_at (words_below graphs learned count) learned (slice_get graphs count) (slice_get learned count) else words_below graphs learned count number
 
 -- how many words the graph with this number needs
 abbrev pub words_for : List Graph → List GraphLearned → ℕ → ℕ
-words_for graphs learned number = words_at (words_below graphs learned number) (slice_get graphs number) (slice_get learned number)
+words_for graphs learned number = words_at (words_below graphs learned number) learned (slice_get graphs number) (slice_get learned number)
 
--- how many inputs a graph has, and how many entries its output
+-- how many inputs a graph has
 abbrev pub inputs_at : Option Graph → ℕ
 inputs_at None = 0
 inputs_at (Some graph) = length graph.inputs
-
-abbrev pub output_at : Option GraphLearned → ℕ
-output_at None = 0
-output_at (Some entry) = entry.output
 
 -- how many words a node of this kind keeps from one point to the next: a memo keeps the inputs of the graph that it calls,
 -- and its output

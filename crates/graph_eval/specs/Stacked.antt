@@ -7,8 +7,10 @@ use Rattle.graph_file.specs.declared.graph.Graph.{Graph}
 use Rattle.graph_file.specs.declared.graph.Node.{Node}
 use Rattle.graph_file.specs.declared.graph.NodeKind.{NodeKind}
 use Rattle.graph_file.specs.declared.graph.Source.{Source}
+use Rattle.graph_eval.specs.declared.expansion.Window.{Window}
 use Rattle.graph_eval.specs.declared.learned.GraphLearned.{GraphLearned}
-use Rattle.graph_eval.specs.GraphValue.{GivesFirst, GraphValue, Meaning, NodeGives, Value}
+use Rattle.graph_eval.specs.Expanded.{orders_of}
+use Rattle.graph_eval.specs.GraphValue.{GivesFirst, GraphValue, IsExpanded, Meaning, NodeGives, Value}
 use Rattle.graph_eval.specs.Learned.{listed_length, sets_of, sizes_of}
 use Rattle.graph_eval.specs.Needs.{extra_of, words_for}
 
@@ -39,7 +41,7 @@ pub record HasCallRoom (graphs : List Graph) (learned : List GraphLearned) (numb
   pub set : List ℕ
   pub own : ℕ
   pub ruled : listed_length (sizes_of graphs (take number learned)) list set kind ≡ Some own
-  pub room : used + own + extra_of (words_for graphs learned) kind ≤ size
+  pub room : used + own + extra_of (words_for graphs learned) learned kind ≤ size
 
 -- an earlier graph's output at these inputs stands behind the words that were there
 pub record IsCalled (m : ℕ) (graphs : List Graph) (learned : List GraphLearned) (called : ℕ) (inputs old new : List ℕ) : Type 0 where
@@ -49,6 +51,14 @@ pub record IsCalled (m : ℕ) (graphs : List Graph) (learned : List GraphLearned
   pub low : All (λ x. x < m) values
   pub long : (entry : GraphLearned) → slice_get learned called ≡ Some entry → length values ≡ entry.output
 
+-- the expansions of an earlier graph's outputs stand behind the words that were there
+pub record IsExpandedCall (m : ℕ) (graphs : List Graph) (learned : List GraphLearned) (called : ℕ) (window : Window) (rest old new : List ℕ) : Type 0 where
+  pub values : List ℕ
+  pub words : new ≡ old ++ values
+  pub value : IsPrime m → IsExpanded m window (GraphValue m graphs (sets_of learned) called) rest values
+  pub low : All (λ x. x < m) values
+  pub long : (entry : GraphLearned) → slice_get learned called ≡ Some entry → length values ≡ entry.output * orders_of window
+
 -- an earlier graph's outputs at each of the first so many inputs stand behind the words that were there
 pub record AreCalled (m : ℕ) (graphs : List Graph) (learned : List GraphLearned) (called : ℕ) (ins : List (List ℕ)) (count : ℕ) (old new : List ℕ) : Type 0 where
   pub outs : List (List ℕ)
@@ -57,3 +67,4 @@ pub record AreCalled (m : ℕ) (graphs : List Graph) (learned : List GraphLearne
   pub first : IsPrime m → GivesFirst (GraphValue m graphs (sets_of learned) called) ins outs
   pub low : All (All (λ x. x < m)) outs
   pub long : (entry : GraphLearned) → slice_get learned called ≡ Some entry → length (chained outs) ≡ count * entry.output
+  pub even : (entry : GraphLearned) → slice_get learned called ≡ Some entry → All (λ out. length out ≡ entry.output) outs

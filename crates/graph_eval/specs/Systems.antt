@@ -4,7 +4,8 @@ use Rattle.elim_core.specs.Sparse.{entries_of}
 use Rattle.graph_file.specs.declared.graph.Graph.{Graph}
 use Rattle.graph_file.specs.declared.graph.Node.{Node}
 use Rattle.graph_file.specs.declared.graph.NodeKind.{NodeKind}
-use Rattle.graph_file.specs.declared.graph.NodeKind.TheVariants.{Dense, Sparse}
+use Rattle.graph_file.specs.declared.graph.NodeKind.TheVariants.{Dense, Sparse, Laurent}
+use Rattle.graph_eval.specs.Expanded.{IsWindow, window_of}
 
 -- the first so many rows of a list, row by row: each has an entry for each unknown, and then its right side
 abbrev pub rows_in : ℕ → ℕ → List ℕ → List (List ℕ)
@@ -27,6 +28,11 @@ HasFewUnknowns kind = ⊤
 abbrev pub HasFewEntries : NodeKind → Type 0
 HasFewEntries (Sparse from unknowns want rows) = entries_of rows ≤ 65536
 HasFewEntries kind = ⊤
+
+-- the degrees and the orders of an expansion are small
+abbrev pub HasWindow : NodeKind → Type 0
+HasWindow (Laurent graph lo hi num den parts) = IsWindow (window_of lo hi num den)
+HasWindow kind = ⊤
 
 -- how many words a node wants for its work beside its list, 0 where it isn't needed
 abbrev pub work_of : Node → ℕ

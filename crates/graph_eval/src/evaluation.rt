@@ -1,24 +1,26 @@
 //! Evaluating a graph in one run of words: its inputs stand on top of a stack, and its output takes their place. A node that
 //! calls an earlier graph has that graph evaluated above the lists so far.
 
-ghost use Rattle.std.specs.Prelude.{◌≡◌, ◌≢◌, ℕ, ◌+◌, ◌*◌, ◌<◌, ◌≤◌, ◌++◌, [], All, List, None, Some, IfErr, IfSome, OnErr, OnOk, IsTrue, drop, length, map, slice_get, slice_index, slice_index_or, take};
+ghost use Rattle.std.specs.Prelude.{◌≡◌, ◌≢◌, ℕ, ◌+◌, ◌*◌, ◌<◌, ◌≤◌, ◌++◌, [], ◌∷◌, All, List, None, Some, IfErr, IfSome, OnErr, OnOk, IsTrue, drop, length, map, slice_get, slice_index, slice_index_or, take};
 ghost use Rattle.std.specs.Bool.{OnFalse, OnTrue};
 ghost use Rattle.prime_field.specs.Modulus.{value_of};
 ghost use Rattle.prime_field.specs.Residue.{IsPrime};
 ghost use Rattle.basic_nodes.specs.Plain.{chained};
 ghost use Rattle.graph_file.specs.Needed.{sources_of};
-ghost use Rattle.graph_file.specs.Sound.{called_graph};
+ghost use Rattle.graph_file.specs.Sound.{IsKind, called_graph};
 ghost use Rattle.graph_file.specs.declared.graph.Graph.{Graph as GraphOf};
 ghost use Rattle.graph_eval.specs.declared.learned.GraphLearned.{GraphLearned as LearnedOf};
 ghost use Rattle.graph_eval.specs.Evaluated.{IsNeededAt};
-ghost use Rattle.graph_eval.specs.GraphValue.{GraphValue, IsStopped, NodeFails, SingularAt, meanings};
+ghost use Rattle.graph_eval.specs.Expanded.{IsWindow, orders_of};
+ghost use Rattle.graph_eval.specs.GraphValue.{GraphValue, IsNotExpanded, IsStopped, NodeFails, SingularAt, meanings};
 ghost use Rattle.graph_eval.specs.Learned.{AreGraphs, CallEarlier, FitsFirst, FitsNode, listed_length, sets_of, sizes_of};
 ghost use Rattle.graph_eval.specs.Memos.{AreKept, FitFrames, FitsFrame};
 ghost use Rattle.graph_eval.specs.Needs.{AreTables, node_extra, words_for};
 ghost use Rattle.graph_eval.specs.Reading.{AreListed, HasLength, IsThere, placed, places_of};
-ghost use Rattle.graph_eval.specs.Stacked.{AreCalled, HasCallRoom, IsAdded, IsCalled, IsReady, IsReplaced};
+ghost use Rattle.graph_eval.specs.Stacked.{AreCalled, HasCallRoom, IsAdded, IsCalled, IsExpandedCall, IsReady, IsReplaced};
 ghost use Rattle.graph_eval.specs.Systems.{AreEnoughFor, words_of};
 
+use crate::expansion::{Window, point_at, push_expansions, window_of};
 use crate::learned::GraphLearned;
 use crate::memos::{MemoFrame, recall, remember};
 use crate::outcome::{Cause, Singular, cause_told};
@@ -34,7 +36,8 @@ pub(crate) fn calls(kind: &NodeKind) -> bool
     ensures no { OnFalse result (called_graph kind.now ≡ None) }
 {
     match kind {
-        NodeKind::Call { .. } | NodeKind::Memo { .. } | NodeKind::Map { .. } => true,
+        NodeKind::Call { .. } | NodeKind::Memo { .. } => true,
+        NodeKind::Map { .. } | NodeKind::Laurent { .. } => true,
         NodeKind::Eval { .. } | NodeKind::Take { .. } | NodeKind::Slice { .. } => false,
         NodeKind::Chain { .. } | NodeKind::Sum { .. } | NodeKind::Product { .. } => false,
         NodeKind::Matmul { .. } | NodeKind::Dense { .. } | NodeKind::Sparse { .. } => false,
@@ -183,6 +186,136 @@ pub(crate) fn write_map(
         }
     }
     Ok(())
+}
+
+/// Appends what an earlier graph gives where its first variable stands at a point, and the others on the lists that sources
+/// name, taken as one list.
+///
+/// # Errors
+///
+/// The first node of that graph that has no value. Then nothing is known of the words.
+#[cycle(evaluation)]
+pub(crate) fn write_at(
+    m: Modulus,
+    graphs: &[Graph],
+    learned: &[GraphLearned],
+    tables: &[Items<usize>],
+    slots: &[Items<usize>],
+    frames: &[MemoFrame],
+    called: usize,
+    point: u64,
+    parts: &[Source],
+    places: &[usize],
+    base: usize,
+    moduli: &mut [Option<Modulus>],
+    counts: &mut [u64],
+    stack: &mut Stack,
+    work: &mut [u64],
+) -> Result<(), Singular>
+    requires sound { AreGraphs graphs.now }
+    requires earlier { CallEarlier graphs.now }
+    requires fits { FitsFirst graphs.now learned.now (length learned.now) }
+    requires tables { AreTables graphs.now learned.now tables.now }
+    requires work { AreEnoughFor graphs.now (length work.old) }
+    requires frames { FitFrames graphs.now learned.now frames.now }
+    requires memos { AreKept graphs.now (sets_of learned.now) frames.now moduli.old stack.old.kept }
+    requires called { called < length graphs.now }
+    requires known { called < length learned.now }
+    requires point { point < value_of m }
+    requires base { base ≤ length stack.old.words }
+    requires there { All (IsThere (drop base stack.old.words) places.now) parts.now }
+    requires inputs { (graph : GraphOf) → slice_get graphs.now called ≡ Some graph → length (chained (map (placed (drop base stack.old.words) places.now) parts.now)) + 1 ≡ length graph.inputs }
+    requires room { length stack.old.words + words_for graphs.now learned.now called ≤ stack.old.size }
+    requires residues { All (λ x. x < value_of m) (drop base stack.old.words) }
+    ensures size { stack.new.size ≡ stack.old.size }
+    ensures kept { length stack.new.kept ≡ length stack.old.kept }
+    ensures memos { AreKept graphs.now (sets_of learned.now) frames.now moduli.new stack.new.kept }
+    ensures ok { OnOk result (IsCalled (value_of m) graphs.now learned.now called (point ∷ chained (map (placed (drop base stack.old.words) places.now) parts.now)) stack.old.words stack.new.words) }
+    ensures err { IfErr result (λ singular. IsPrime (value_of m)
+        → GraphValue (value_of m) graphs.now (sets_of learned.now) called (point ∷ chained (map (placed (drop base stack.old.words) places.now) parts.now)) (SingularAt singular.node singular.cause)) }
+{
+    let top = stack.len();
+    stack.push(&[point]);
+    push_chain(parts, places, base, graphs[called].inputs.len() - 1, stack);
+    count_one(counts, called);
+    evaluate(
+        m, graphs, learned, tables, slots, frames, called, top, moduli, counts, stack, work,
+    )
+}
+
+/// Appends the coefficients of the expansions of an earlier graph's outputs in powers of its first variable, where the
+/// others stand on the lists that sources name, taken as one list.
+///
+/// # Errors
+///
+/// The cause where the graph is singular at the first point at which it is, or else where the first output that has no
+/// expansion has none. Then nothing is known of the words.
+#[cycle(evaluation)]
+pub(crate) fn write_expanded(
+    m: Modulus,
+    graphs: &[Graph],
+    learned: &[GraphLearned],
+    tables: &[Items<usize>],
+    slots: &[Items<usize>],
+    frames: &[MemoFrame],
+    called: usize,
+    window: Window,
+    parts: &[Source],
+    places: &[usize],
+    base: usize,
+    moduli: &mut [Option<Modulus>],
+    counts: &mut [u64],
+    stack: &mut Stack,
+    work: &mut [u64],
+) -> Result<(), Cause>
+    requires sound { AreGraphs graphs.now }
+    requires earlier { CallEarlier graphs.now }
+    requires fits { FitsFirst graphs.now learned.now (length learned.now) }
+    requires tables { AreTables graphs.now learned.now tables.now }
+    requires work { AreEnoughFor graphs.now (length work.old) }
+    requires frames { FitFrames graphs.now learned.now frames.now }
+    requires memos { AreKept graphs.now (sets_of learned.now) frames.now moduli.old stack.old.kept }
+    requires called { called < length graphs.now }
+    requires known { called < length learned.now }
+    requires window { IsWindow window }
+    requires base { base ≤ length stack.old.words }
+    requires there { All (IsThere (drop base stack.old.words) places.now) parts.now }
+    requires inputs { (graph : GraphOf) → slice_get graphs.now called ≡ Some graph → length (chained (map (placed (drop base stack.old.words) places.now) parts.now)) + 1 ≡ length graph.inputs }
+    requires room { (entry : LearnedOf) → slice_get learned.now called ≡ Some entry
+        → length stack.old.words + entry.output * orders_of window + (words_for graphs.now learned.now called + (window.num + window.den + 3) * entry.output) ≤ stack.old.size }
+    requires residues { All (λ x. x < value_of m) (drop base stack.old.words) }
+    ensures size { stack.new.size ≡ stack.old.size }
+    ensures kept { length stack.new.kept ≡ length stack.old.kept }
+    ensures memos { AreKept graphs.now (sets_of learned.now) frames.now moduli.new stack.new.kept }
+    ensures ok { OnOk result (IsExpandedCall (value_of m) graphs.now learned.now called window (chained (map (placed (drop base stack.old.words) places.now) parts.now)) stack.old.words stack.new.words) }
+    ensures err { IfErr result (λ cause. IsPrime (value_of m)
+        → IsNotExpanded (value_of m) window (GraphValue (value_of m) graphs.now (sets_of learned.now) called) (chained (map (placed (drop base stack.old.words) places.now) parts.now)) cause) }
+{
+    let top = stack.len();
+    let points = window.points();
+    for number in 0..points {
+        match write_at(
+            m,
+            graphs,
+            learned,
+            tables,
+            slots,
+            frames,
+            called,
+            point_at(number),
+            parts,
+            places,
+            base,
+            moduli,
+            counts,
+            stack,
+            work,
+        ) {
+            Ok(()) => {}
+            Err(singular) => return Err(singular.cause),
+        }
+    }
+    push_expansions(m, window, learned[called].output as usize, top, stack)
 }
 
 /// Appends what an earlier graph gives on the lists that sources name, taken as one list, as [`write_call`] does, but from
@@ -351,6 +484,7 @@ pub(crate) fn push_call(
     requires memos { AreKept graphs.now (sets_of learned.now) frames.now moduli.old stack.old.kept }
     requires there { number < length graphs.now }
     requires known { number ≤ length learned.now }
+    requires kind { (variables : ℕ) × (number : ℕ) × IsKind variables number node.now.kind }
     requires needed { IsTrue node.now.needed }
     requires called { called_graph node.now.kind ≢ None }
     requires calls { (called : ℕ) → called_graph node.now.kind ≡ Some called → called < number }
@@ -417,6 +551,30 @@ pub(crate) fn push_call(
             stack,
             work,
         )),
+        NodeKind::Laurent {
+            graph,
+            lo,
+            hi,
+            num,
+            den,
+            parts,
+        } => write_expanded(
+            m,
+            graphs,
+            learned,
+            tables,
+            slots,
+            frames,
+            *graph as usize,
+            window_of(*lo, *hi, *num, *den),
+            parts.as_slice(),
+            places,
+            base,
+            moduli,
+            counts,
+            stack,
+            work,
+        ),
         _ => unreachable!(),
     }
 }
@@ -463,7 +621,7 @@ fn push_node(
     requires listed { AreListed (slice_index places.now 0) (take place entry.now.lengths) (drop base stack.old.words) }
     requires enough { IsTrue node.now.needed → words_of node.now.kind ≤ length work.old }
     requires residues { All (λ x. x < value_of m) (drop base stack.old.words) }
-    requires room { length stack.old.words + slice_index entry.now.lengths place + node_extra (words_for graphs.now learned.now) node.now ≤ stack.old.size }
+    requires room { length stack.old.words + slice_index entry.now.lengths place + node_extra (words_for graphs.now learned.now) learned.now node.now ≤ stack.old.size }
     ensures size { stack.new.size ≡ stack.old.size }
     ensures kept { length stack.new.kept ≡ length stack.old.kept }
     ensures memos { AreKept graphs.now (sets_of learned.now) frames.now moduli.new stack.new.kept }

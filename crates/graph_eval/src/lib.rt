@@ -6,6 +6,7 @@
 #![tactic(auto)]
 
 mod evaluation;
+mod expansion;
 mod frames;
 mod fresh;
 mod kinds;

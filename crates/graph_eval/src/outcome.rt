@@ -14,6 +14,12 @@ pub enum Cause {
     /// A system of equations doesn't tell its unknowns by those that were learned.
     #[error("a system doesn't tell its unknowns by those that were learned")]
     System,
+    /// An output of an expanded graph isn't a quotient within the degrees of the node.
+    #[error("an output is no quotient of polynomials within the degrees")]
+    Degree,
+    /// The expansion of an output of a graph begins below the lowest order of the node.
+    #[error("an expansion begins below the lowest order")]
+    Pole,
 }
 
 /// The first node of a graph, by its place counted from 0, that has no value at a point.

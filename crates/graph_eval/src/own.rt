@@ -227,7 +227,7 @@ fn push_called(
         → NodeFails (value_of m) (meanings (value_of m) graphs.now (sets_of learned.now) (length learned.now)) set (placed words.old.items places.now) node.now cause)) }
 {
     let len = words.len();
-    let extra = extra_of(&node.kind, wanted);
+    let extra = extra_of(&node.kind, wanted, learned);
     let size = len + count + extra;
     let mut stack = Stack::new(alloc, size, 0)?;
     stack.push(words.as_slice());

@@ -100,7 +100,8 @@ pub(crate) fn write_list(
                 return Err(Cause::System);
             }
         }
-        NodeKind::Call { .. } | NodeKind::Memo { .. } | NodeKind::Map { .. } => unreachable!(),
+        NodeKind::Call { .. } | NodeKind::Memo { .. } => unreachable!(),
+        NodeKind::Map { .. } | NodeKind::Laurent { .. } => unreachable!(),
     }
     Ok(())
 }

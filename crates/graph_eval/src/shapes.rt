@@ -4,7 +4,7 @@ ghost use Rattle.std.specs.Prelude.{◌≡◌, ◌≤◌, IfOk, length, map};
 ghost use Rattle.elim_core.specs.Sparse.{entries_of};
 ghost use Rattle.ratfun_text.specs.Value.{greatest};
 ghost use Rattle.graph_eval.specs.Learned.{greatest_among, shape_of, size_at, sizes_of};
-ghost use Rattle.graph_eval.specs.Systems.{HasFewEntries};
+ghost use Rattle.graph_eval.specs.Systems.{HasFewEntries, HasWindow};
 
 use crate::learned::GraphLearned;
 use basic_nodes::NodeShape;
@@ -95,7 +95,8 @@ pub(crate) fn shape_of(
     set: &[u32],
     sizes: &[GraphSize],
 ) -> Result<NodeShape, NoMemory>
-    requires { HasFewEntries kind.now }
+    requires few { HasFewEntries kind.now }
+    requires window { HasWindow kind.now }
     ensures { IfOk result (λ shape. shape ≡ shape_of sizes.now set.now kind.now) }
 {
     Ok(match kind {
@@ -150,6 +151,14 @@ pub(crate) fn shape_of(
             NodeShape::Map {
                 inputs: size.inputs,
                 outputs: size.outputs,
+            }
+        }
+        NodeKind::Laurent { graph, lo, hi, .. } => {
+            let size = size_at(sizes, *graph);
+            NodeShape::Laurent {
+                inputs: size.inputs,
+                outputs: size.outputs,
+                orders: (*hi - *lo + 1) as usize,
             }
         }
     })

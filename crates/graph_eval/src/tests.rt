@@ -3,7 +3,8 @@
 ghost use Rattle.std.specs.Prelude.{◌≡◌, IfOk, length, slice_get};
 ghost use Rattle.graph_eval.specs.Evaluated.{HasInputs};
 ghost use Rattle.graph_eval.specs.GraphValue.{main_number};
-ghost use Rattle.graph_eval.specs.Learned.{Fits};
+ghost use Rattle.graph_eval.specs.Learned.{Fits, outputs_of};
+ghost use Rattle.graph_eval.specs.Made.{IsMadeFor};
 
 use super::*;
 use graph_file::{Job, Need, read_graphs};
@@ -305,5 +306,271 @@ fn what_was_learned_and_a_worker_go_to_other_threads(rt: HostRuntime) -> Result<
     }
     may_be_shared(&Fresh::Length { node: 0 });
     may_be_shared(&Outcome::Defined);
+    Ok(())
+}
+
+/// The job of a file with several graphs.
+fn graphs_of(alloc: Global, text: &str) -> Result<Job, Fail> {
+    let bytes = text.as_bytes();
+    if bytes.len() > 16_777_216 {
+        return Err(Fail::from("a long text"));
+    }
+    Ok(read_graphs(alloc, bytes, Need::Points)?)
+}
+
+/// The lengths of the lists of a job's graphs, of which none solves a system.
+fn all_lengths(alloc: Global, job: &Job) -> Result<Learned, Fail>
+    ensures { IfOk result (Fits job.now.graphs) }
+{
+    let mut learned = Learned::new(alloc);
+    for number in 0..job.graphs.len() {
+        if has_solver(&job.graphs.as_slice()[number]) {
+            return Err(Fail::from("a solver"));
+        }
+        let Fresh::Learned(entry) = lengths_of(alloc, job, &learned, number as u32)? else {
+            return Err(Fail::from("a wrong length"));
+        };
+        learned.add(entry)?;
+    }
+    Ok(learned)
+}
+
+/// The modulus at this place: the second at one of them, and else the first.
+fn modulus_at(place: usize, second: usize) -> Modulus {
+    if place == second {
+        return Modulus::second();
+    }
+    Modulus::first()
+}
+
+/// What a worker tells at each point of a job in order, the values of all of them one after the other. One of the points is
+/// taken at the second modulus. All words that aren't kept are free behind each point.
+fn values_in_order(
+    alloc: Global,
+    job: &Job,
+    learned: &Learned,
+    worker: &mut Worker,
+    second: usize,
+    out: &mut [u64],
+) -> Result<Vec<u64>, Fail>
+    requires made { IsMadeFor job.now.graphs learned.now worker.old }
+    requires fits { Fits job.now.graphs learned.now }
+    requires long { length out.old ≡ outputs_of learned.now }
+{
+    let free = worker.free_words();
+    let mut values = Vec::new(alloc);
+    for (place, point) in job.points.as_slice().iter().enumerate() {
+        let m = modulus_at(place, second);
+        let Outcome::Defined = worker.eval_point(job, learned, m, point, out) else {
+            return Err(Fail::from("a singular point"));
+        };
+        if worker.free_words() != free {
+            return Err(Fail::from("words that aren't free"));
+        }
+        values.extend_from_slice(out)?;
+    }
+    Ok(values)
+}
+
+/// What one worker tells at each point of a file in order, and how often it evaluated the first graph. One of the points is
+/// taken at the second modulus.
+fn told_in_order(rt: &HostRuntime, text: &str, second: usize) -> Result<(Vec<u64>, u64), Fail> {
+    let alloc = rt.alloc();
+    let job = graphs_of(alloc, text)?;
+    let learned = all_lengths(alloc, &job)?;
+    let mut worker = Worker::new(alloc, &job, &learned)?;
+    let mut out = vec![in alloc; 0; learned.outputs()]?;
+    let values = values_in_order(
+        alloc,
+        &job,
+        &learned,
+        &mut worker,
+        second,
+        out.as_mut_slice(),
+    )?;
+    Ok((values, worker.evaluations(0)))
+}
+
+/// A file that squares its one variable by a graph of its own, called in this way, at four points.
+fn squared(alloc: Global, kind: &str) -> Result<String, Fail> {
+    Ok(format!(in alloc;
+        "flow 1\ngraph sq\ninput u\nnode p eval input = u^2\noutput p\ngraph main\ninput x\nnode q {kind} sq input\noutput q\npoint 3\npoint 3\npoint 4\npoint 3\n"
+    )?)
+}
+
+#[test]
+fn a_graph_is_called_at_each_point(rt: HostRuntime) -> Result<(), Fail> {
+    let text = squared(rt.alloc(), "call")?;
+    let (values, evaluations) = told_in_order(&rt, text.as_str(), 4)?;
+    assert_eq!(rt; values.as_slice(), [9, 9, 16, 9].as_slice());
+    assert_eq!(rt; evaluations, 4);
+    Ok(())
+}
+
+#[test]
+fn a_memo_is_asked_anew_only_where_its_inputs_change(rt: HostRuntime) -> Result<(), Fail> {
+    let text = squared(rt.alloc(), "memo")?;
+    let (values, evaluations) = told_in_order(&rt, text.as_str(), 4)?;
+    assert_eq!(rt; values.as_slice(), [9, 9, 16, 9].as_slice());
+    assert_eq!(rt; evaluations, 3);
+    let job = graphs_of(rt.alloc(), text.as_str())?;
+    let learned = all_lengths(rt.alloc(), &job)?;
+    assert_eq!(rt; words_needed(&job, &learned), 6);
+    Ok(())
+}
+
+#[test]
+fn a_graph_is_mapped_over_lists(rt: HostRuntime) -> Result<(), Fail> {
+    let text =
+        "flow 1\ngraph sq\ninput u\nnode p eval input = u^2\noutput p\ngraph main\ninput x y\nnode a slice input 1 1\nnode b slice input 2 2\nnode q map sq a b\noutput q\npoint 3 5\n";
+    let (values, evaluations) = told_in_order(&rt, text, 4)?;
+    assert_eq!(rt; values.as_slice(), [9, 25].as_slice());
+    assert_eq!(rt; evaluations, 2);
+    Ok(())
+}
+
+#[test]
+fn a_memo_keeps_by_its_modulus(rt: HostRuntime) -> Result<(), Fail> {
+    let text =
+        "flow 1\ngraph sq\ninput u\nnode p eval input = u^2\noutput p\ngraph main\ninput x\nnode q memo sq input\noutput q\npoint 2305843009213693950\npoint 2305843009213693950\npoint 2305843009213693950\n";
+    let (values, evaluations) = told_in_order(&rt, text, 1)?;
+    assert_eq!(rt; values.as_slice(), [1, 5188146770730811396, 1].as_slice());
+    assert_eq!(rt; evaluations, 3);
+    Ok(())
+}
+
+#[test]
+fn a_called_graph_is_singular_at_the_calling_node(rt: HostRuntime) -> Result<(), Fail> {
+    let alloc = rt.alloc();
+    let text =
+        "flow 1\ngraph inv\ninput u\nnode c eval input = 1\nnode p eval input = 1/u\noutput p\ngraph main\ninput x y\nnode a slice input 1 1\nnode b slice input 2 2\nnode q map inv a b\noutput q\npoint 3 0\n";
+    let job = graphs_of(alloc, text)?;
+    let learned = all_lengths(alloc, &job)?;
+    let mut worker = Worker::new(alloc, &job, &learned)?;
+    let free = worker.free_words();
+    let mut out = vec![in alloc; 0; learned.outputs()]?;
+    let point = job.points.as_slice().first().ok_or("no point")?;
+    let singular = Outcome::Singular(Singular {
+        node: 2,
+        cause: Cause::Division,
+    });
+    assert_eq!(rt;
+        worker.eval_point(&job, &learned, Modulus::first(), point, out.as_mut_slice()),
+        singular
+    );
+    assert_eq!(rt; worker.free_words(), free);
+    Ok(())
+}
+
+/// What a file of several graphs tells at its first point, and how many words its worker's block has.
+fn told_with_words(rt: &HostRuntime, text: &str) -> Result<(Told, usize), Fail> {
+    let alloc = rt.alloc();
+    let job = graphs_of(alloc, text)?;
+    let learned = all_lengths(alloc, &job)?;
+    let mut worker = Worker::new(alloc, &job, &learned)?;
+    let free = worker.free_words();
+    let mut out = vec![in alloc; 0; learned.outputs()]?;
+    let point = job.points.as_slice().first().ok_or("no point")?;
+    let m = Modulus::first();
+    let told = match worker.eval_point(&job, &learned, m, point, out.as_mut_slice()) {
+        Outcome::Defined => Told::Values(out),
+        Outcome::Singular(singular) => Told::Singular(singular),
+    };
+    if worker.free_words() != free {
+        return Err(Fail::from("words that aren't free"));
+    }
+    Ok((told, words_needed(&job, &learned)))
+}
+
+/// What `laurent g` tells with these numbers, where `g` gives these expressions in `e`, at the point 7.
+fn expansion_of(rt: &HostRuntime, exprs: &str, numbers: &str) -> Result<Told, Fail> {
+    let text = format!(in rt.alloc();
+        "flow 1\ngraph g\ninput e\nnode r eval input = {exprs}\noutput r\ngraph main\ninput x\nnode l laurent g {numbers}\noutput l\npoint 7\n"
+    )?;
+    Ok(told_with_words(rt, text.as_str())?.0)
+}
+
+#[test]
+fn a_simple_pole_is_expanded(rt: HostRuntime) -> Result<(), Fail> {
+    // 1/(e + e^2) = 1/e - 1 + e - ..
+    let text =
+        "flow 1\ngraph g\ninput e\nnode r eval input = 1/(e*(1+e))\noutput r\ngraph main\ninput x\nnode l laurent g -1 1 0 2\noutput l\npoint 7\n";
+    let (told, words) = told_with_words(&rt, text)?;
+    let want = Told::Values(Vec::from_slice(rt.alloc(), &[1, 2305843009213693950, 1])?);
+    assert_eq!(rt; told, want);
+    assert_eq!(rt; words, 95);
+    Ok(())
+}
+
+#[test]
+fn expansions_stand_output_by_output(rt: HostRuntime) -> Result<(), Fail> {
+    // 3 + e^2, and 1/(1 - 2*e) = 1 + 2*e + 4*e^2 + ..
+    let want = Told::Values(Vec::from_slice(rt.alloc(), &[3, 0, 1, 1, 2, 4])?);
+    assert_eq!(rt; expansion_of(&rt, "3 + e^2 ; 1/(1-2*e)", "0 2 2 1")?, want);
+    Ok(())
+}
+
+#[test]
+fn one_order_may_be_wanted(rt: HostRuntime) -> Result<(), Fail> {
+    let want = Told::Values(Vec::from_slice(rt.alloc(), &[5])?);
+    assert_eq!(rt; expansion_of(&rt, "5/e^2 + 4/e", "-2 -2 1 2")?, want);
+    Ok(())
+}
+
+#[test]
+fn an_expansion_that_begins_below_the_orders_is_a_pole(rt: HostRuntime) -> Result<(), Fail> {
+    let pole = Told::Singular(Singular {
+        node: 0,
+        cause: Cause::Pole,
+    });
+    assert_eq!(rt; expansion_of(&rt, "1/(e*(1+e))", "0 1 0 2")?, pole);
+    // the first output that fails decides
+    assert_eq!(rt; expansion_of(&rt, "1 ; 1/e ; e^3", "0 1 2 2")?, pole);
+    Ok(())
+}
+
+#[test]
+fn an_output_past_the_degrees_is_told(rt: HostRuntime) -> Result<(), Fail> {
+    let degree = Told::Singular(Singular {
+        node: 0,
+        cause: Cause::Degree,
+    });
+    assert_eq!(rt; expansion_of(&rt, "1/(e*(1+e))", "-1 1 0 1")?, degree);
+    assert_eq!(rt; expansion_of(&rt, "1 ; e^3 ; 1/e", "0 1 2 2")?, degree);
+    Ok(())
+}
+
+#[test]
+fn a_point_at_which_the_graph_is_singular_comes_first(rt: HostRuntime) -> Result<(), Fail> {
+    // the third point is 2^40 + 3
+    let division = Told::Singular(Singular {
+        node: 0,
+        cause: Cause::Division,
+    });
+    assert_eq!(rt;
+        expansion_of(&rt, "e^9 ; 1/(e - 1099511627779)", "0 1 2 2")?,
+        division
+    );
+    Ok(())
+}
+
+#[test]
+fn an_expansion_is_expanded_again(rt: HostRuntime) -> Result<(), Fail> {
+    // 1/(1 - u*v) = 1 + u*v + (u*v)^2 + .. in u; of each coefficient the terms in v, each times x
+    let text =
+        "flow 1\ngraph inner\ninput u v x\nnode r eval input = x/(1-u*v)\noutput r\ngraph outer\ninput v x\nnode l laurent inner 0 2 1 1 input\noutput l\ngraph main\ninput x\nnode l laurent outer 0 2 2 0 input\noutput l\npoint 7\n";
+    let (told, _words) = told_with_words(&rt, text)?;
+    let want = Told::Values(Vec::from_slice(rt.alloc(), &[7, 0, 0, 0, 7, 0, 0, 0, 7])?);
+    assert_eq!(rt; told, want);
+    Ok(())
+}
+
+#[test]
+fn a_memo_is_asked_at_each_point_of_an_expansion(rt: HostRuntime) -> Result<(), Fail> {
+    let text =
+        "flow 1\ngraph sq\ninput u\nnode p eval input = u^2\noutput p\ngraph g\ninput e x\nnode a slice input 2 2\nnode q memo sq a\nnode s slice input 1 1\nnode r product q s\noutput r\ngraph main\ninput x\nnode l laurent g 0 1 1 0 input\noutput l\npoint 3\n";
+    let (values, evaluations) = told_in_order(&rt, text, 1)?;
+    assert_eq!(rt; values.as_slice(), [0, 9].as_slice());
+    assert_eq!(rt; evaluations, 1);
     Ok(())
 }

@@ -11,7 +11,7 @@ use Rattle.poly_maps.specs.declared.bound.Bounds.{Bounds}
 use Rattle.rational_lift.specs.Joined.{both}
 use Rattle.rational_lift.specs.declared.coeff.Coeff.{Coeff}
 use Rattle.ray_grid.specs.Grid.{IsGrid, bound_of, point_count}
-use Rattle.multivar_recon.specs.Covering.{Covers, HasFew}
+use Rattle.ray_grid.specs.Covering.{Covers, HasFew}
 use Rattle.graph_file.specs.declared.graph.Graph.{Graph}
 use Rattle.graph_file.specs.declared.job.Need.{Need}
 use Rattle.graph_file.specs.declared.job.Need.TheVariants as needed

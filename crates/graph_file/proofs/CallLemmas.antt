@@ -1,5 +1,5 @@
 -- A graph calls earlier ones alone.
-use Rattle.std.proofs.Common.{◌≡◌, ◌<◌, ◌≤◌, ◌+◌, ◌-◌, ℕ, zero, suc, Bool, true, false, cond, refl, sym, ap, subst, ◌∙◌, List, [], ◌∷◌, ◌++◌, length, map, take, Option, Some, None, arith, nat_le, option_map, bytes_eq, ◌⊎◌}
+use Rattle.std.proofs.Common.{◌≡◌, ◌<◌, ◌≤◌, ◌+◌, ◌-◌, ℕ, zero, suc, Bool, true, false, cond, refl, sym, ap, subst, ◌∙◌, List, [], ◌∷◌, length, map, take, Some, None, arith, nat_le, option_map, bytes_eq}
 use mathlib.Core.Logic.{⊎_elim}
 use Rattle.std.specs.List.{slice_get}
 use Rattle.std.proofs.lemmas.Bool.Decides.{nat_tests}
@@ -16,14 +16,14 @@ use Rattle.graph_file.specs.declared.graph.Source.{Source}
 use Rattle.graph_file.specs.declared.line.Line.{Line}
 use Rattle.graph_file.specs.declared.line.Line.TheVariants as line
 use Rattle.graph_file.specs.declared.line.Statement.{Statement}
-use Rattle.graph_file.specs.declared.line.Statement.TheVariants.{Eval, Take, Slice, Chain, Sum, Product, Matmul, Dense, Sparse, Call, Memo, Map}
+use Rattle.graph_file.specs.declared.line.Statement.TheVariants.{Eval, Take, Slice, Chain, Sum, Product, Matmul, Dense, Sparse, Call, Memo, Map, Laurent}
 use Rattle.graph_file.specs.Facts.{earlier_names_in, graph_named, graph_names_in}
 use Rattle.graph_file.specs.Line.{all_of}
 use Rattle.graph_file.specs.Needed.{kinds_of}
 use Rattle.graph_file.specs.Says.{AreKinds, SaysGraph, call_parts, kind_of, last_with_row, lines_through, part_named, source_named, wanted, with_row}
 use Rattle.graph_file.specs.Sound.{CallsEarlier, called_graph}
 use Rattle.graph_file.proofs.DepthLemmas.{earlier-names}
-use Rattle.graph_file.proofs.KindLemmas.{AreMade, IsMade, call_made, made_of, matmul_made}
+use Rattle.graph_file.proofs.KindLemmas.{IsMade, call_made, made_of, matmul_made}
 use Rattle.graph_file.proofs.SoundLemmas.{at_push, nothing_at}
 
 -- a kind that calls nothing
@@ -55,6 +55,9 @@ called-named graphs names exprs (Memo graph parts) kind called e some =
 called-named graphs names exprs (Map graph parts) kind called e some =
     let made : IsMade (λ (call : ℕ × List Source). node.Map call.0 call.1) (call_parts graphs names graph parts) kind = made_of (λ (call : ℕ × List Source). node.Map call.0 call.1) (call_parts graphs names graph parts) kind e in
     calls_named graphs graph made.from.0 called (call_made (graph_named graphs graph) (all_of (map (source_named names) parts)) made.from made.there).0 (ap called_graph made.is ∙ some)
+called-named graphs names exprs (Laurent graph expansion parts) kind called e some =
+    let made : IsMade (λ (call : ℕ × List Source). node.Laurent call.0 expansion.lo expansion.hi expansion.num expansion.den call.1) (call_parts graphs names graph parts) kind = made_of (λ (call : ℕ × List Source). node.Laurent call.0 expansion.lo expansion.hi expansion.num expansion.den call.1) (call_parts graphs names graph parts) kind e in
+    calls_named graphs graph made.from.0 called (call_made (graph_named graphs graph) (all_of (map (source_named names) parts)) made.from made.there).0 (ap called_graph made.is ∙ some)
 
 -- one more row changes no call
 row_calls : (row : SparseRow) (kind : NodeKind) → called_graph (with_row row kind) ≡ called_graph kind
@@ -70,6 +73,7 @@ row_calls row (node.Sparse from unknowns want rows) = refl
 row_calls row (node.Call graph parts) = refl
 row_calls row (node.Memo graph parts) = refl
 row_calls row (node.Map graph parts) = refl
+row_calls row (node.Laurent graph lo hi num den parts) = refl
 
 -- the calls of some kinds are below a number
 AreBelow : ℕ → List NodeKind → Type 0

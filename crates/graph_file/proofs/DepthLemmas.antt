@@ -1,5 +1,5 @@
 -- The graphs that others call, and how deep calls go.
-use Rattle.std.proofs.Common.{◌≡◌, ◌<◌, ◌≤◌, ◌+◌, ◌-◌, ℕ, zero, suc, Bool, true, false, not, cond, refl, sym, ap, subst, ◌∙◌, List, [], ◌∷◌, ◌++◌, length, take, min, max, Option, Some, None, arith, nat_lt, bytes_eq, position, length-append, is_some, ◌⊎◌, inl, inr}
+use Rattle.std.proofs.Common.{◌≡◌, ◌<◌, ◌≤◌, ◌+◌, ◌-◌, ℕ, zero, suc, Bool, true, false, not, cond, refl, sym, ap, ◌∙◌, List, [], ◌∷◌, ◌++◌, length, take, min, max, Option, Some, None, arith, nat_lt, bytes_eq, position, length-append, is_some}
 use mathlib.Core.Logic.{⊎_elim}
 use Rattle.std.specs.List.{slice_get, position_or_len, list_any}
 use Rattle.std.proofs.lemmas.Bool.Decides.{nat_tests}
@@ -8,7 +8,7 @@ use Rattle.graph_file.specs.declared.line.Line.{Line}
 use Rattle.graph_file.specs.declared.line.Line.TheVariants as line
 use Rattle.graph_file.specs.declared.line.Statement.{Statement}
 use Rattle.graph_file.proofs.TableLemmas.{is_some-position}
-use Rattle.graph_file.specs.Facts.{graph_named, called_by, depth_over, depths_in, earlier_names_in, graph_names_in, last_raised}
+use Rattle.graph_file.specs.Facts.{graph_named, called_by, depth_over, earlier_names_in, graph_names_in, last_raised}
 use Rattle.graph_file.specs.Read.{AreDepths}
 use Rattle.graph_file.proofs.SoundLemmas.{at_push, nothing_at}
 

@@ -16,10 +16,10 @@ use Rattle.graph_file.specs.declared.line.Which.{Which}
 use Rattle.graph_file.specs.declared.line.Line.{Line}
 use Rattle.graph_file.specs.declared.line.Line.TheVariants.{Flow, Graph, Input, Node, Row, Point}
 use Rattle.graph_file.specs.declared.line.Statement.{Statement}
-use Rattle.graph_file.specs.declared.line.Statement.TheVariants.{Eval, Take, Matmul}
+use Rattle.graph_file.specs.declared.line.Statement.TheVariants.{Eval, Take, Matmul, Laurent}
 use Rattle.graph_file.specs.declared.line.Want.{Want}
 use Rattle.graph_file.specs.declared.line.Want.TheVariants.{Numbers}
-use Rattle.graph_file.specs.Line.{both_degrees, bounds_from, bounds_line, coeff_from, coeff_line, which_of, wide_of, all_of, entry_of, size_of, flow_line, graph_line, input_line, output_line, point_line, eval_node, take_node, part_before, parts_of, slice_node, slice_from, chain_node, sum_node, product_node, matmul_node, sides_of, numbers_wanted, want_of, dense_from, dense_node, sparse_from, sparse_node, call_node, memo_node, map_node, are_less, are_ascending, row_line, statement_of, node_line, line_of_words, line_of}
+use Rattle.graph_file.specs.Line.{both_degrees, bounds_from, bounds_line, coeff_from, coeff_line, which_of, wide_of, all_of, entry_of, size_of, flow_line, graph_line, input_line, output_line, point_line, eval_node, take_node, part_before, parts_of, slice_node, slice_from, chain_node, sum_node, product_node, matmul_node, sides_of, numbers_wanted, want_of, dense_from, dense_node, sparse_from, sparse_node, call_node, memo_node, map_node, expansion_from, laurent_node, order_of, are_less, are_ascending, row_line, statement_of, node_line, line_of_words, line_of}
 
 chosen : {A : Type 0} (P : A → Type 0) (b : Bool) (x y : Option A) → IfSome x P → IfSome y P → IfSome (cond b x y) P
 chosen P true x y first second = first
@@ -164,6 +164,14 @@ module _ (n : ℕ) where
   maps (a ∷ []) = tt
   maps (a ∷ b ∷ later) = omega arith
 
+  laurents : (words : List (List ℕ)) → IfSome (laurent_node words) (IsWhole n)
+  laurents [] = tt
+  laurents (a ∷ []) = tt
+  laurents (a ∷ b ∷ []) = tt
+  laurents (a ∷ b ∷ c ∷ []) = tt
+  laurents (a ∷ b ∷ c ∷ d ∷ []) = tt
+  laurents (a ∷ b ∷ c ∷ d ∷ e ∷ later) = made (IsWhole n) (λ expansion. Laurent a expansion later) (expansion_from (order_of b) (order_of c) (size_of d) (size_of e)) (λ expansion. tt)
+
   named : (name : List ℕ) (statement : Option Statement) → is_name name ≡ true → IfSome statement (IsWhole n) → IfSome (option_map (Node name) statement) (IsFormed n)
   named name None is whole = tt
   named name (Some statement) is whole = (is, whole)
@@ -242,7 +250,8 @@ statements line kind words =
     (chosen (IsWhole n) (bytes_eq kind (codes "sparse")) _ _ (sparse_nodes n words)
     (chosen (IsWhole n) (bytes_eq kind (codes "call")) _ _ (calls n words)
     (chosen (IsWhole n) (bytes_eq kind (codes "memo")) _ _ (memos n words)
-    (chosen (IsWhole n) (bytes_eq kind (codes "map")) _ None (maps n words) tt)))))))))))
+    (chosen (IsWhole n) (bytes_eq kind (codes "map")) _ _ (maps n words)
+    (chosen (IsWhole n) (bytes_eq kind (codes "laurent")) _ None (laurents n words) tt))))))))))))
 
 nodes : (line : List ℕ) (words : List (List ℕ)) → IfSome (node_line line words) (IsFormed (length line + 1))
 nodes line [] = tt

@@ -105,7 +105,7 @@ module _ (reader : Reader) (sound : FitsTogether reader) (name : List ℕ) (outp
   names_distinct i j first second at_first at_second same =
       let one : WasMarked reader i first = was i first at_first in
       let two : WasMarked reader j second = was j second at_second in
-      let name_at : (k : ℕ) (n : Node) → slice_get reader.nodes.items k ≡ Some n → slice_get reader.table.names k ≡ Some n.name = λ k n at. ap (λ l. slice_get l k) (sym sound.names_are) ∙ slice_get-map (λ (m : Node). m.name) reader.nodes.items k ∙ ap (option_map (λ (m : Node). m.name)) at in
+      let name_at : (k : ℕ) (n : Node) → slice_get reader.nodes.items k ≡ Some n → slice_get reader.table k ≡ Some n.name = λ k n at. ap (λ l. slice_get l k) (sym sound.names_are) ∙ slice_get-map (λ (m : Node). m.name) reader.nodes.items k ∙ ap (option_map (λ (m : Node). m.name)) at in
       let equal : two.was.name ≡ one.was.name = two.name_is ∙ sym same ∙ sym one.name_is in
       sound.distinct i j one.was.name (name_at i one.was one.there) (name_at j two.was two.there ∙ ap (λ n. Some n) equal)
 
@@ -140,7 +140,7 @@ module _ (reader : Reader) (sound : FitsTogether reader) (name : List ℕ) (outp
   pub all-with : (graphs' : List Graph) → is_ended reader.stood ≡ true → reader.name ≡ Some name → reader.output ≡ Some output → graphs' ≡ reader.graphs ++ graph ∷ [] → (earlier : List Line) → IsRead earlier reader → AreAll earlier graphs'
   all-with graphs' ended name_is output_is more earlier read =
       let says : SaysGraph earlier graph = says-graph earlier read name_is output_is in
-      AreAll-last earlier reader.graph_names.names reader.graphs graphs' graph read.graphs_are says.named says (graph-sound ended name_is output_is) more
+      AreAll-last earlier reader.graph_names reader.graphs graphs' graph read.graphs_are says.named says (graph-sound ended name_is output_is) more
 
 -- a graph in hand is whole where each is
 pub ended-with-name : (reader : Reader) → FitsTogether reader → (name : List ℕ) → reader.name ≡ Some name → (has_name reader.stood ≡ true → is_ended reader.stood ≡ true) → is_ended reader.stood ≡ true
@@ -152,7 +152,7 @@ ended-with-name reader sound name is whole = from (has_name reader.stood) refl
 
 -- a reader without a graph in hand has all graphs
 pub all-without : (reader : Reader) → reader.name ≡ None → (earlier : List Line) → IsRead earlier reader → AreAll earlier reader.graphs
-all-without reader none earlier read = AreAll-none earlier reader.graph_names.names reader.graphs read.graphs_are (sym read.name_is ∙ none)
+all-without reader none earlier read = AreAll-none earlier reader.graph_names reader.graphs read.graphs_are (sym read.name_is ∙ none)
 
 -- the marks of a graph's nodes
 pub marks-are : (kinds kinds' : List NodeKind) (nodes : List Node) (output : Source) (flags : List Bool) → kinds' ≡ kinds → AreMarkedFrom kinds output 0 flags → ((k : ℕ) (node : Node) → slice_get nodes k ≡ Some node → slice_get flags k ≡ Some node.needed) → (k : ℕ) (node : Node) → slice_get nodes k ≡ Some node → IsTrue node.needed ↔ IsNeededFor kinds' output k
@@ -187,8 +187,8 @@ module _ (reader : Reader) (need : Need) (all : List Line) (graphs : List Graph)
   pub job-sound : (points : List (List ℕ)) → points ≡ reader.asked.points → IsJob graphs points
   job-sound points same =
       let some : 1 ≤ length (graph_names_in all) = some-named need all reader read good complete in
-      let count : length reader.graph_names.names ≡ length (graph_names_in all) = ap length read.graphs_are.names_are in
-      let name_at : (k : ℕ) (graph : Graph) → slice_get graphs k ≡ Some graph → slice_get reader.graph_names.names k ≡ Some graph.name = λ k graph at. ap (λ (l : List (List ℕ)). slice_get l k) read.graphs_are.names_are ∙ are.first.named k graph at in
+      let count : length reader.graph_names ≡ length (graph_names_in all) = ap length read.graphs_are.names_are in
+      let name_at : (k : ℕ) (graph : Graph) → slice_get graphs k ≡ Some graph → slice_get reader.graph_names k ≡ Some graph.name = λ k graph at. ap (λ (l : List (List ℕ)). slice_get l k) read.graphs_are.names_are ∙ are.first.named k graph at in
       subst (IsJob graphs) (sym same) (record {
         main = omega (arith, some, are.counted);
         bounded = omega (arith, are.counted, count, read.graphs_are.few);

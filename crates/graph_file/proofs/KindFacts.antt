@@ -1,12 +1,12 @@
 -- What holds of what a sound node computes.
-use Rattle.std.proofs.Common.{◌≡◌, ◌≢◌, ◌<◌, ◌≤◌, ℕ, zero, suc, refl, ap, subst, List, [], ◌∷◌, length, map, Some, arith}
+use Rattle.std.proofs.Common.{◌≡◌, ◌<◌, ℕ, ℤ, zero, suc, refl, subst, List, [], ◌∷◌, map, Some}
 use Rattle.std.specs.List.{slice_get}
 use Rattle.elim_core.specs.declared.SparseRow.{SparseRow}
 use Rattle.ratfun_text.specs.declared.expr.Expr.{Expr}
 use Rattle.graph_file.specs.Needed.{Reads, sources_of}
-use Rattle.graph_file.specs.Sound.{IsDense, IsEarlier, IsEval, IsKind, IsMatmul, IsSlice, IsSparse, IsTake}
+use Rattle.graph_file.specs.Sound.{IsDense, IsEarlier, IsEval, IsKind, IsLaurent, IsMatmul, IsSlice, IsSparse, IsTake}
 use Rattle.graph_file.specs.declared.graph.NodeKind.{NodeKind}
-use Rattle.graph_file.specs.declared.graph.NodeKind.TheVariants.{Eval, Take, Slice, Chain, Sum, Product, Matmul, Dense, Sparse, Call, Memo, Map}
+use Rattle.graph_file.specs.declared.graph.NodeKind.TheVariants.{Eval, Take, Slice, Chain, Sum, Product, Matmul, Dense, Sparse, Call, Memo, Map, Laurent}
 use Rattle.graph_file.specs.declared.graph.Source.{Source}
 use Rattle.graph_file.specs.declared.graph.Source.TheVariants as source
 
@@ -37,29 +37,11 @@ sources_earlier variables number (Sparse from unknowns want rows) sound = only n
 sources_earlier variables number (Call graph parts) sound = sound.earlier
 sources_earlier variables number (Memo graph parts) sound = sound.earlier
 sources_earlier variables number (Map graph parts) sound = sound.earlier
+sources_earlier variables number (Laurent graph lo hi num den parts) sound = sound.earlier
 
 -- a sound node reads nodes before it alone
 pub reads_earlier : (variables number : ℕ) (kind : NodeKind) → IsKind variables number kind → (k : ℕ) → Reads kind (source.Node k) → k < number
 reads_earlier variables number kind sound k reads = sources_earlier variables number kind sound reads.0 (source.Node k) reads.1
-
-some_left : {X : Type 0} (xs : List X) → 1 ≤ length xs → xs ≢ []
-some_left xs some none = absurd (omega (arith, ap length none))
-
--- a sound node reads something
-pub some_sources : (variables number : ℕ) (kind : NodeKind) → IsKind variables number kind → sources_of kind ≢ []
-some_sources variables number (Eval from exprs) sound none = cc
-some_sources variables number (Take []) sound none = let some : 1 ≤ 0 = sound.some in absurd (omega (arith, some))
-some_sources variables number (Take (p ∷ parts)) sound none = cc
-some_sources variables number (Slice from first last) sound none = cc
-some_sources variables number (Chain parts) sound none = some_left parts sound.some none
-some_sources variables number (Sum parts) sound none = some_left parts sound.some none
-some_sources variables number (Product parts) sound none = some_left parts sound.some none
-some_sources variables number (Matmul left right rows mid cols) sound none = cc
-some_sources variables number (Dense from rows unknowns want) sound none = cc
-some_sources variables number (Sparse from unknowns want rows) sound none = cc
-some_sources variables number (Call graph parts) sound none = some_left parts sound.some none
-some_sources variables number (Memo graph parts) sound none = some_left parts sound.some none
-some_sources variables number (Map graph parts) sound none = some_left parts sound.some none
 
 -- what a sound node is, by its kind
 module _ (variables number : ℕ) (kind : NodeKind) (sound : IsKind variables number kind) where
@@ -80,3 +62,6 @@ module _ (variables number : ℕ) (kind : NodeKind) (sound : IsKind variables nu
 
   pub sound-sparse : (from : Source) (unknowns : ℕ) (want : List ℕ) (rows : List SparseRow) → kind ≡ Sparse from unknowns want rows → IsSparse number from unknowns want rows
   sound-sparse from unknowns want rows is = subst (IsKind variables number) is sound
+
+  pub sound-laurent : (graph : ℕ) (lo hi : ℤ) (num den : ℕ) (parts : List Source) → kind ≡ Laurent graph lo hi num den parts → IsLaurent number lo hi num den parts
+  sound-laurent graph lo hi num den parts is = subst (IsKind variables number) is sound

@@ -1,8 +1,9 @@
 -- What a node computes is sound.
-use Rattle.std.proofs.Common.{◌≡◌, ◌≢◌, ◌<◌, ◌≤◌, ◌+◌, ◌*◌, ℕ, zero, suc, Bool, true, false, not, ◌&&◌, cond, refl, sym, ap, subst, ◌∙◌, List, [], ◌∷◌, ◌++◌, length, map, Option, Some, None, arith, option_map, bytes_eq, codes, nat_le, All, get_or, position}
+use Rattle.std.proofs.Common.{ℤ, pos, negsuc, ◌≤ℤ◌, int_le, ◌≡◌, ◌≢◌, ◌<◌, ◌≤◌, ◌+◌, ◌*◌, ℕ, zero, suc, Bool, true, false, not, ◌&&◌, cond, refl, sym, ap, subst, ◌∙◌, List, [], ◌∷◌, ◌++◌, length, map, Option, Some, None, arith, option_map, bytes_eq, codes, nat_le, All, get_or, position}
 use Rattle.std.specs.Option.{option_and_then}
 use Rattle.std.specs.List.{slice_get, slice_index, list_all, list_any, AllZip, range_with_len}
 use Rattle.std.proofs.lemmas.Bool.Decides.{nat_tests}
+use Rattle.std.proofs.lemmas.Int.{ints}
 use Rattle.std.proofs.lemmas.List.FromFn.{length-range_with_len, get_or-range_with_len}
 use Rattle.std.proofs.lemmas.List.Quantifiers.{position-Some}
 use Rattle.std.proofs.lemmas.Option.{get_or_from_slice_get, slice_get-get_or, slice_get_within}
@@ -12,20 +13,21 @@ use Rattle.ratfun_text.specs.Value.{greatest}
 use Rattle.ratfun_text.specs.declared.expr.Expr.{Expr}
 use Rattle.ratfun_text.specs.declared.names.Names.TheVariants.{Listed, Numbered}
 use Rattle.graph_file.specs.Facts.{called_by, graph_named, unknowns_of}
-use Rattle.graph_file.specs.Faults.{are_sides, is_counted, is_in_range, is_known, is_not_among, is_position, is_product, is_range, is_system, is_want, lists_in, names_in, names_over}
+use Rattle.graph_file.specs.Faults.{are_sides, is_counted, is_expansion, is_in_range, is_known, is_not_among, is_position, is_product, is_range, is_system, is_want, lists_in, names_in, names_over}
 use Rattle.graph_file.specs.Reader.{node_stood}
 use Rattle.graph_file.specs.Formed.{IsWant, IsWhole}
 use Rattle.graph_file.specs.Line.{all_of, texts_in}
 use Rattle.graph_file.specs.Says.{AreTrees, call_parts, kind_of, part_named, source_named, wanted}
 use Rattle.graph_file.specs.Reader.{HasNoRows, IsBegun, kind_stood, kind_unknowns}
-use Rattle.graph_file.specs.Sound.{AreLists, AreSides, IsDense, IsEarlier, IsPosition, IsSlice}
+use Rattle.graph_file.specs.Sound.{AreLists, AreSides, IsDense, IsEarlier, IsLaurent, IsPosition, IsSlice}
 use Rattle.graph_file.specs.declared.graph.NodeKind.{NodeKind}
 use Rattle.graph_file.specs.declared.graph.NodeKind.TheVariants as node
 use Rattle.graph_file.specs.declared.graph.Source.{Source}
 use Rattle.graph_file.specs.declared.graph.Source.TheVariants as source
+use Rattle.graph_file.specs.declared.line.Expansion.{Expansion}
 use Rattle.graph_file.specs.declared.line.Line.TheVariants as line
 use Rattle.graph_file.specs.declared.line.Statement.{Statement}
-use Rattle.graph_file.specs.declared.line.Statement.TheVariants.{Eval, Take, Slice, Chain, Sum, Product, Matmul, Dense, Sparse, Call, Memo, Map}
+use Rattle.graph_file.specs.declared.line.Statement.TheVariants.{Eval, Take, Slice, Chain, Sum, Product, Matmul, Dense, Sparse, Call, Memo, Map, Laurent}
 use Rattle.graph_file.specs.declared.line.Want.{Want}
 use Rattle.graph_file.specs.declared.line.Want.TheVariants.{Every, Numbers}
 use Rattle.graph_file.proofs.Passes.{both, list_all-at, not_false}
@@ -208,8 +210,28 @@ system_is number from rows unknowns want earlier e is =
       wanted = wanted_is unknowns want two.1;
     }
 
+ordered_is : (a b : ℤ) → int_le a b ≡ true → a ≤ℤ b
+ordered_is a b e = grind (arith, ints, e)
+
 lists_are : (names lists : List (List ℕ)) (sources : List Source) → all_of (map (source_named names) lists) ≡ Some sources → 1 ≤ length lists → AreLists (length names) sources
 lists_are names lists sources e some = record { earlier = lists_earlier names lists sources e; some = omega (arith, some, length-answers (source_named names) lists sources e) }
+
+-- the numbers of an expansion are in their ranges
+expansion_is : (number : ℕ) (parts : List Source) (expansion : Expansion) → ((k : ℕ) (from : Source) → slice_get parts k ≡ Some from → IsEarlier number from) → is_expansion expansion ≡ true →
+    IsLaurent number expansion.lo expansion.hi expansion.num expansion.den parts
+expansion_is number parts expansion earlier e =
+    let four : ((int_le (negsuc 63) expansion.lo && int_le expansion.lo expansion.hi && int_le expansion.hi (pos 64) && nat_le expansion.num 64) ≡ true) × (nat_le expansion.den 64 ≡ true) = both _ _ e in
+    let three : ((int_le (negsuc 63) expansion.lo && int_le expansion.lo expansion.hi && int_le expansion.hi (pos 64)) ≡ true) × (nat_le expansion.num 64 ≡ true) = both _ _ four.0 in
+    let two : ((int_le (negsuc 63) expansion.lo && int_le expansion.lo expansion.hi) ≡ true) × (int_le expansion.hi (pos 64) ≡ true) = both _ _ three.0 in
+    let one : (int_le (negsuc 63) expansion.lo ≡ true) × (int_le expansion.lo expansion.hi ≡ true) = both _ _ two.0 in
+    record {
+      earlier = earlier;
+      lowest = ordered_is (negsuc 63) expansion.lo one.0;
+      ordered = ordered_is expansion.lo expansion.hi one.1;
+      highest = ordered_is expansion.hi (pos 64) two.1;
+      num_low = grind (arith, nat_tests, three.1);
+      den_low = grind (arith, nat_tests, four.1);
+    }
 
 -- both lists of a product
 pub record AreMade (names : List (List ℕ)) (left right : Option Source) (rows mid cols : ℕ) (kind : NodeKind) : Type 0 where
@@ -306,6 +328,10 @@ kind_sound graphs names vs exprs name (Memo graph parts) kind most e whole range
 kind_sound graphs names vs exprs name (Map graph parts) kind most e whole ranges trees arguments =
     let made : IsMade (λ (call : ℕ × List Source). node.Map call.0 call.1) (call_parts graphs names graph parts) kind = made_of (λ (call : ℕ × List Source). node.Map call.0 call.1) (call_parts graphs names graph parts) kind e in
     subst (IsBegun (length vs) (length names)) made.is (lists_are names parts made.from.1 (call_made (graph_named graphs graph) (all_of (map (source_named names) parts)) made.from made.there).1 whole)
+kind_sound graphs names vs exprs name (Laurent graph expansion parts) kind most e whole ranges trees arguments =
+    let made : IsMade (λ (call : ℕ × List Source). node.Laurent call.0 expansion.lo expansion.hi expansion.num expansion.den call.1) (call_parts graphs names graph parts) kind = made_of (λ (call : ℕ × List Source). node.Laurent call.0 expansion.lo expansion.hi expansion.num expansion.den call.1) (call_parts graphs names graph parts) kind e in
+    let there : all_of (map (source_named names) parts) ≡ Some made.from.1 = (call_made (graph_named graphs graph) (all_of (map (source_named names) parts)) made.from made.there).1 in
+    subst (IsBegun (length vs) (length names)) made.is (expansion_is (length names) made.from.1 expansion (lists_earlier names parts made.from.1 there) ranges)
 
 -- what a node's line says of what it computes
 pub record IsOf (statement : Statement) (kind : NodeKind) : Type 0 where
@@ -338,6 +364,8 @@ kind_is_of graphs names exprs (Memo graph parts) kind e =
     subst (IsOf (Memo graph parts)) (made_of (λ (call : ℕ × List Source). node.Memo call.0 call.1) (call_parts graphs names graph parts) kind e).is (record { no_rows = tt; stood = refl; unknowns = refl })
 kind_is_of graphs names exprs (Map graph parts) kind e =
     subst (IsOf (Map graph parts)) (made_of (λ (call : ℕ × List Source). node.Map call.0 call.1) (call_parts graphs names graph parts) kind e).is (record { no_rows = tt; stood = refl; unknowns = refl })
+kind_is_of graphs names exprs (Laurent graph expansion parts) kind e =
+    subst (IsOf (Laurent graph expansion parts)) (made_of (λ (call : ℕ × List Source). node.Laurent call.0 expansion.lo expansion.hi expansion.num expansion.den call.1) (call_parts graphs names graph parts) kind e).is (record { no_rows = tt; stood = refl; unknowns = refl })
 
 -- known lists have their nodes
 option_none : {A B : Type 0} (make : A → B) (o : Option A) → option_map make o ≡ None → o ≡ None
@@ -408,3 +436,4 @@ kind-there graphs names exprs (Sparse from unknowns want) among known none = sou
 kind-there graphs names exprs (Call graph parts) among known none = call-there graphs names graph parts among known (option_none _ (call_parts graphs names graph parts) none)
 kind-there graphs names exprs (Memo graph parts) among known none = call-there graphs names graph parts among known (option_none _ (call_parts graphs names graph parts) none)
 kind-there graphs names exprs (Map graph parts) among known none = call-there graphs names graph parts among known (option_none _ (call_parts graphs names graph parts) none)
+kind-there graphs names exprs (Laurent graph expansion parts) among known none = call-there graphs names graph parts among known (option_none _ (call_parts graphs names graph parts) none)

@@ -2,7 +2,7 @@
 use Rattle.std.proofs.Common.{◌≡◌, ◌<◌, ◌≤◌, ◌-◌, ◌==◌, ℕ, false, refl, sym, ap, ◌∙◌, List, [], ◌∷◌, ◌++◌, length, map, take, drop, get_or, Option, Some, None, option_map, arith}
 use Rattle.std.specs.Borrow.{Bor}
 use Rattle.std.proofs.Math.Seq.{take-length}
-use Rattle.graph_file.specs.Line.{parts_of, part_before, size_of, sides_of, matmul_node, dense_node, sparse_node}
+use Rattle.graph_file.specs.Line.{parts_of, part_before, size_of, sides_of, matmul_node, dense_node, laurent_node, sparse_node}
 use Rattle.graph_file.proofs.AllOf.{onto, onto-cons}
 
 abbrev texts : List (Bor (List ℕ)) → List (List ℕ)
@@ -45,6 +45,14 @@ dense-few [] few = refl
 dense-few (a ∷ []) few = refl
 dense-few (a ∷ b ∷ []) few = refl
 dense-few (a ∷ b ∷ c ∷ later) few = absurd (omega arith)
+
+pub laurent-few : (words : List (Bor (List ℕ))) → length words < 5 → None ≡ laurent_node (map (λ word. word.now) words)
+laurent-few [] few = refl
+laurent-few (a ∷ []) few = refl
+laurent-few (a ∷ b ∷ []) few = refl
+laurent-few (a ∷ b ∷ c ∷ []) few = refl
+laurent-few (a ∷ b ∷ c ∷ d ∷ []) few = refl
+laurent-few (a ∷ b ∷ c ∷ d ∷ e ∷ later) few = absurd (omega arith)
 
 pub sparse-few : (words : List (Bor (List ℕ))) → length words < 2 → None ≡ sparse_node (map (λ word. word.now) words)
 sparse-few [] few = refl

@@ -14,7 +14,7 @@ use Rattle.graph_file.specs.declared.line.Degrees.{Degrees}
 use Rattle.graph_file.specs.declared.line.Which.{Which}
 use Rattle.graph_file.specs.declared.line.Line.TheVariants.{Flow, Graph, Input, Node, Row, Output, Point, Bounds, Coeff}
 use Rattle.graph_file.specs.declared.line.Statement.{Statement}
-use Rattle.graph_file.specs.declared.line.Statement.TheVariants.{Eval, Take, Slice, Chain, Sum, Product, Matmul, Dense, Sparse, Call, Memo, Map}
+use Rattle.graph_file.specs.declared.line.Statement.TheVariants.{Eval, Take, Slice, Chain, Sum, Product, Matmul, Dense, Sparse, Call, Memo, Map, Laurent}
 use Rattle.graph_file.specs.Facts.{entries_in, graph_names_in, has_output, is_job_line, points_in, unknowns_in, variables_in}
 use Rattle.graph_file.specs.Faults.{are_columns, are_new, fault_after, fits, goes_on, is_entry, is_limit, is_repeated, is_residue, is_row_line, is_short, is_syntax, is_unknown_graph, is_unknown_node, is_version, may_stand, takes_rows}
 use Rattle.poly_maps.specs.Point.{IsPoint}
@@ -85,6 +85,7 @@ of_statement (Sparse from unknowns want) line = refl
 of_statement (Call graph parts) line = refl
 of_statement (Memo graph parts) line = refl
 of_statement (Map graph parts) line = refl
+of_statement (Laurent graph expansion parts) line = refl
 
 pub stands_of : (earlier : List Line) (line : Line) → may_stand earlier line ≡ stands_behind (last_of earlier) line
 stands_of [] line = refl
@@ -111,6 +112,7 @@ ended_statement (Sparse from unknowns want) = refl
 ended_statement (Call graph parts) = refl
 ended_statement (Memo graph parts) = refl
 ended_statement (Map graph parts) = refl
+ended_statement (Laurent graph expansion parts) = refl
 
 pub ended_of : (earlier : List Line) → has_output earlier ≡ is_ended (last_of earlier)
 ended_of [] = refl

@@ -2,7 +2,7 @@
 use Rattle.std.proofs.Common.{◌≡◌, ◌≢◌, ℕ, ◌-◌, ◌≤◌, List, [], ◌∷◌, length, Option, Some, None, refl, sym, ap, subst, arith, inl, inr}
 use Rattle.std.specs.Prelude.{◌⊎◌, slice_get, unwrap_or}
 use Rattle.poly_maps.specs.declared.bound.Bounds.{Bounds}
-use Rattle.multivar_recon.specs.Covering.{Covers}
+use Rattle.ray_grid.specs.Covering.{Covers}
 use Rattle.ratfun_text.specs.Printed as printed
 use Rattle.ray_grid.specs.Grid.{bound_of}
 use Rattle.graph_file.specs.declared.graph.Graph.{Graph}

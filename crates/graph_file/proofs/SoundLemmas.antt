@@ -136,6 +136,7 @@ input_with_node (node.Sparse from unknowns want rows) = refl
 input_with_node (node.Call graph parts) = refl
 input_with_node (node.Memo graph parts) = refl
 input_with_node (node.Map graph parts) = refl
+input_with_node (node.Laurent graph lo hi num den parts) = refl
 
 named_with_node : (kind : NodeKind) → has_name (kind_stood kind) ≡ true
 named_with_node kind = named_with_input (kind_stood kind) (input_with_node kind)
@@ -153,6 +154,7 @@ no_output_with_node (node.Sparse from unknowns want rows) = refl
 no_output_with_node (node.Call graph parts) = refl
 no_output_with_node (node.Memo graph parts) = refl
 no_output_with_node (node.Map graph parts) = refl
+no_output_with_node (node.Laurent graph lo hi num den parts) = refl
 
 -- a node that isn't sparse waits for no rows
 filled_node : (kind : NodeKind) → (kind_stood kind ≡ last.Sparse → ⊥) → HasRows kind
@@ -168,6 +170,7 @@ filled_node (node.Sparse from unknowns want rows) other = absurd (other refl)
 filled_node (node.Call graph parts) other = tt
 filled_node (node.Memo graph parts) other = tt
 filled_node (node.Map graph parts) other = tt
+filled_node (node.Laurent graph lo hi num den parts) other = tt
 
 -- a sparse node's rows are still to come
 open_node : (kind : NodeKind) → HasNoRows kind → has_rows (kind_stood kind) ≡ true → IsOpen (kind_unknowns kind) 0 kind
@@ -183,6 +186,7 @@ open_node (node.Sparse from unknowns want rows) none e = (refl, ap entries_of no
 open_node (node.Call graph parts) none e = cc
 open_node (node.Memo graph parts) none e = cc
 open_node (node.Map graph parts) none e = cc
+open_node (node.Laurent graph lo hi num den parts) none e = cc
 
 few_of_node : (variables number : ℕ) (kind : NodeKind) → IsBegun variables number kind → kind_unknowns kind ≤ 4096
 few_of_node variables number (node.Eval from exprs) begun = omega arith
@@ -197,6 +201,7 @@ few_of_node variables number (node.Sparse from unknowns want rows) begun = begun
 few_of_node variables number (node.Call graph parts) begun = omega arith
 few_of_node variables number (node.Memo graph parts) begun = omega arith
 few_of_node variables number (node.Map graph parts) begun = omega arith
+few_of_node variables number (node.Laurent graph lo hi num den parts) begun = omega arith
 
 -- a node that has its rows is sound
 pub whole_kind : (variables number : ℕ) (kind : NodeKind) → IsBegun variables number kind → HasRows kind → IsKind variables number kind
@@ -212,6 +217,7 @@ whole_kind variables number (node.Sparse from unknowns want rows) begun filled =
 whole_kind variables number (node.Call graph parts) begun filled = begun
 whole_kind variables number (node.Memo graph parts) begun filled = begun
 whole_kind variables number (node.Map graph parts) begun filled = begun
+whole_kind variables number (node.Laurent graph lo hi num den parts) begun filled = begun
 
 -- lists with one more element at their ends
 none_pushed : {X : Type 0} (xs : List X) (x : X) → xs ++ x ∷ [] ≡ [] → ⊥
@@ -272,6 +278,7 @@ has_row unknowns entries row (node.Dense from rows own want) opened some is room
 has_row unknowns entries row (node.Call graph parts) opened some is room = absurd opened
 has_row unknowns entries row (node.Memo graph parts) opened some is room = absurd opened
 has_row unknowns entries row (node.Map graph parts) opened some is room = absurd opened
+has_row unknowns entries row (node.Laurent graph lo hi num den parts) opened some is room = absurd opened
 has_row unknowns entries row (node.Sparse from own want rows) opened some is room =
     let few : AreFewRows own (rows ++ row ∷ []) = few_pushed own rows row opened.2 some (subst (λ (u : ℕ). IsSparseRow u row) (sym opened.0) is) (omega (arith, opened.1, room)) in
     record {

@@ -39,24 +39,24 @@ stands-next reader said next = subst (λ (s : Last). stands_behind s said ≡ tr
 pub variables-kept : (earlier : List Line) (reader : Reader) → IsRead earlier reader → length (variables_of reader.variables) ≡ length (variables_in earlier)
 variables-kept earlier reader read = ap (λ (v : Names). length (variables_of v)) read.variables_are
 
-pub names_count : (reader : Reader) → FitsTogether reader → length reader.table.names ≡ length reader.nodes.items
+pub names_count : (reader : Reader) → FitsTogether reader → length reader.table ≡ length reader.nodes.items
 names_count reader sound = ap length (sym sound.names_are) ∙ length-map reader.nodes.items (λ (node : Node). node.name)
 
 -- the names of the graphs before the one in hand
 abbrev pub earlier_graphs : Reader → List (List ℕ)
-earlier_graphs reader = take (length reader.graphs) reader.graph_names.names
+earlier_graphs reader = take (length reader.graphs) reader.graph_names
 
 pub graphs-kept : (earlier : List Line) (reader : Reader) → IsRead earlier reader → earlier_graphs reader ≡ earlier_names_in earlier
 graphs-kept earlier reader read =
     let count : length reader.graphs ≡ length (graph_names_in earlier) - 1 = read.graphs_are.counted ∙ ap (λ (l : List (List ℕ)). length l - 1) read.graphs_are.names_are in
-    ap (λ n. take n reader.graph_names.names) count ∙ ap (take (length (graph_names_in earlier) - 1)) read.graphs_are.names_are ∙ earlier-names earlier
+    ap (λ n. take n reader.graph_names) count ∙ ap (take (length (graph_names_in earlier) - 1)) read.graphs_are.names_are ∙ earlier-names earlier
 
 -- a node's line
 module _ (reader : Reader) (name : List ℕ) (statement : Statement) (next : IsNextTo reader (line.Node name statement)) where
-  all_limits : ((is_short name && nat_lt (length reader.table.names) 4096 && is_in_range statement) ≡ true) × (is_shallow next.earlier statement ≡ true)
+  all_limits : ((is_short name && nat_lt (length reader.table) 4096 && is_in_range statement) ≡ true) × (is_shallow next.earlier statement ≡ true)
   all_limits = both _ _ (subst (λ (ns : List (List ℕ)). (is_short name && nat_lt (length ns) 4096 && is_in_range statement && is_shallow next.earlier statement) ≡ true) (sym next.read.names_are) (not_false _ (passed reader (line.Node name statement) next).limits))
 
-  limits : ((is_short name && nat_lt (length reader.table.names) 4096 && is_in_range statement) ≡ true)
+  limits : ((is_short name && nat_lt (length reader.table) 4096 && is_in_range statement) ≡ true)
   limits = all_limits.0
 
   pub node-shallow : depth_over (earlier_graphs reader) reader.depths.items (called_by statement) ≤ 8
@@ -66,17 +66,17 @@ module _ (reader : Reader) (name : List ℕ) (statement : Statement) (next : IsN
       subst (λ (gs : List (List ℕ)). depth_over gs reader.depths.items (called_by statement) ≤ 8) (sym (graphs-kept next.earlier reader next.read))
       (subst (λ (ds : List ℕ). depth_over (earlier_names_in next.earlier) ds (called_by statement) ≤ 8) (sym next.read.depths_are.are) low)
 
-  unlike : (bytes_eq name (codes "input") ≡ false) × (list_any (λ other. bytes_eq other name) reader.table.names ≡ false)
+  unlike : (bytes_eq name (codes "input") ≡ false) × (list_any (λ other. bytes_eq other name) reader.table ≡ false)
   unlike = subst (λ (ns : List (List ℕ)). (bytes_eq name (codes "input") ≡ false) × (list_any (λ other. bytes_eq other name) ns ≡ false)) (sym next.read.names_are) (neither (bytes_eq name (codes "input")) _ (passed reader (line.Node name statement) next).is_new)
 
   pub node-few : length reader.nodes.items < 4096
   node-few =
-      let two : ((is_short name && nat_lt (length reader.table.names) 4096) ≡ true) × (is_in_range statement ≡ true) = both _ _ limits in
-      let count : nat_lt (length reader.table.names) 4096 ≡ true = (both (is_short name) _ two.0).1 in
-      let below : length reader.table.names < 4096 = grind (arith, nat_tests) in
+      let two : ((is_short name && nat_lt (length reader.table) 4096) ≡ true) × (is_in_range statement ≡ true) = both _ _ limits in
+      let count : nat_lt (length reader.table) 4096 ≡ true = (both (is_short name) _ two.0).1 in
+      let below : length reader.table < 4096 = grind (arith, nat_tests) in
       omega (arith, names_count reader next.read.sound)
 
-  pub node-new : list_any (λ other. bytes_eq other name) reader.table.names ≡ false
+  pub node-new : list_any (λ other. bytes_eq other name) reader.table ≡ false
   node-new = unlike.1
 
   no_input : name ≢ codes "input"
@@ -84,16 +84,16 @@ module _ (reader : Reader) (name : List ℕ) (statement : Statement) (next : IsN
       let like : bytes_eq name (codes "input") ≡ true = (bytes_eq-Decides name (codes "input")).1 same in
       let never : true ≡ false = sym like ∙ unlike.0 in cc
 
-  pub node-there : (exprs : List Expr) → kind_of (earlier_graphs reader) reader.table.names exprs statement ≡ None → ⊥
-  node-there exprs none = kind-there (earlier_graphs reader) reader.table.names exprs statement (subst (λ (gs : List (List ℕ)). is_not_among gs (called_by statement) ≡ false) (sym (graphs-kept next.earlier reader next.read)) (passed reader (line.Node name statement) next).graphs) (subst (λ (ns : List (List ℕ)). list_all (is_known ns) (lists_in statement) ≡ true) (sym next.read.names_are) (not_false _ (passed reader (line.Node name statement) next).lists)) none
+  pub node-there : (exprs : List Expr) → kind_of (earlier_graphs reader) reader.table exprs statement ≡ None → ⊥
+  node-there exprs none = kind-there (earlier_graphs reader) reader.table exprs statement (subst (λ (gs : List (List ℕ)). is_not_among gs (called_by statement) ≡ false) (sym (graphs-kept next.earlier reader next.read)) (passed reader (line.Node name statement) next).graphs) (subst (λ (ns : List (List ℕ)). list_all (is_known ns) (lists_in statement) ≡ true) (sym next.read.names_are) (not_false _ (passed reader (line.Node name statement) next).lists)) none
 
-  pub node-sound : (exprs : List Expr) (computed : NodeKind) → ((most : ℕ) × IsFormed most (line.Node name statement)) → kind_of (earlier_graphs reader) reader.table.names exprs statement ≡ Some computed → AreTrees (names_for reader.variables statement) (texts_of statement) exprs → All (λ expr. greatest expr ≤ last_argument (names_for reader.variables statement)) exprs → IsBegunNode (length (variables_of reader.variables)) (length reader.nodes.items) (record { name = name; kind = computed; needed = false })
+  pub node-sound : (exprs : List Expr) (computed : NodeKind) → ((most : ℕ) × IsFormed most (line.Node name statement)) → kind_of (earlier_graphs reader) reader.table exprs statement ≡ Some computed → AreTrees (names_for reader.variables statement) (texts_of statement) exprs → All (λ expr. greatest expr ≤ last_argument (names_for reader.variables statement)) exprs → IsBegunNode (length (variables_of reader.variables)) (length reader.nodes.items) (record { name = name; kind = computed; needed = false })
   node-sound exprs computed formed is trees arguments =
       let ranges : is_in_range statement ≡ true = (both _ (is_in_range statement) limits).1 in
       let vs : List (List ℕ) = variables_of reader.variables in
       let listed_trees : AreTrees (names_for (Listed vs) statement) (texts_of statement) exprs = subst (λ (v : Names). AreTrees (names_for v statement) (texts_of statement) exprs) next.read.sound.listed trees in
       let listed_arguments : All (λ expr. greatest expr ≤ last_argument (names_for (Listed vs) statement)) exprs = subst (λ (v : Names). All (λ (expr : Expr). greatest expr ≤ last_argument (names_for v statement)) exprs) next.read.sound.listed arguments in
-      let sound : IsBegun (length vs) (length reader.table.names) computed = kind_sound (earlier_graphs reader) reader.table.names vs exprs name statement computed formed.0 is formed.1.1 ranges listed_trees listed_arguments in
+      let sound : IsBegun (length vs) (length reader.table) computed = kind_sound (earlier_graphs reader) reader.table vs exprs name statement computed formed.0 is formed.1.1 ranges listed_trees listed_arguments in
       record {
         named = formed.1.0;
         short = at_most_32 name (both (is_short name) _ (both _ (is_in_range statement) limits).0).0;
@@ -102,16 +102,16 @@ module _ (reader : Reader) (name : List ℕ) (statement : Statement) (next : IsN
       }
 
 -- what the node of a line computes
-pub kind-said : (earlier : List Line) (reader : Reader) (name : List ℕ) (statement : Statement) (exprs : List Expr) (computed : NodeKind) → IsRead earlier reader → kind_of (earlier_graphs reader) reader.table.names exprs statement ≡ Some computed → AreTrees (names_for reader.variables statement) (texts_of statement) exprs → IsKindOf earlier name statement computed
+pub kind-said : (earlier : List Line) (reader : Reader) (name : List ℕ) (statement : Statement) (exprs : List Expr) (computed : NodeKind) → IsRead earlier reader → kind_of (earlier_graphs reader) reader.table exprs statement ≡ Some computed → AreTrees (names_for reader.variables statement) (texts_of statement) exprs → IsKindOf earlier name statement computed
 kind-said earlier reader name statement exprs computed read is trees = record {
   exprs = exprs;
   trees = subst (λ (v : Names). AreTrees (names_for v statement) (texts_of statement) exprs) read.variables_are trees;
-  kind_is = ap (λ names. kind_of (earlier_names_in earlier) names exprs statement) (sym read.names_are) ∙ ap (λ graphs. kind_of graphs reader.table.names exprs statement) (sym (graphs-kept earlier reader read)) ∙ is;
+  kind_is = ap (λ names. kind_of (earlier_names_in earlier) names exprs statement) (sym read.names_are) ∙ ap (λ graphs. kind_of graphs reader.table exprs statement) (sym (graphs-kept earlier reader read)) ∙ is;
 }
 
 -- an output's line
-pub output-there : (reader : Reader) (list : List ℕ) → IsNextTo reader (line.Output list) → source_named reader.table.names list ≡ None → ⊥
-output-there reader list next none = source-known reader.table.names list (subst (λ (ns : List (List ℕ)). is_known ns list ≡ true) (sym next.read.names_are) (not_false _ (passed reader (line.Output list) next).lists)) none
+pub output-there : (reader : Reader) (list : List ℕ) → IsNextTo reader (line.Output list) → source_named reader.table list ≡ None → ⊥
+output-there reader list next none = source-known reader.table list (subst (λ (ns : List (List ℕ)). is_known ns list ≡ true) (sym next.read.names_are) (not_false _ (passed reader (line.Output list) next).lists)) none
 
 skip : (b : Bool) (told other : FileKind) (later : Option FileKind) → (Some told ≡ Some other → ⊥) → cond b (Some told) later ≡ Some other → later ≡ Some other
 skip true told other later differs e = absurd (differs e)

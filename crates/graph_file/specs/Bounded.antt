@@ -6,7 +6,7 @@ use Rattle.poly_maps.specs.declared.bound.Bounds.{Bounds}
 use Rattle.rational_lift.specs.Joined.{both}
 use Rattle.rational_lift.specs.declared.coeff.Coeff.{Coeff}
 use Rattle.ray_grid.specs.Grid.{IsGrid, point_count}
-use Rattle.multivar_recon.specs.Covering.{HasFew}
+use Rattle.ray_grid.specs.Covering.{HasFew}
 use Rattle.graph_file.specs.declared.graph.Graph.{Graph}
 use Rattle.graph_file.specs.declared.job.Need.{Need}
 use Rattle.graph_file.specs.declared.job.Need.TheVariants.{Functions}

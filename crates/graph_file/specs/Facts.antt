@@ -4,7 +4,7 @@ use Rattle.std.specs.Prelude.{ℕ, ◌+◌, max, Bool, true, false, List, [], �
 use Rattle.graph_file.specs.declared.line.Line.{Line}
 use Rattle.graph_file.specs.declared.line.Line.TheVariants.{Graph, Input, Node, Row, Output, Point, Bounds, Coeff}
 use Rattle.graph_file.specs.declared.line.Statement.{Statement}
-use Rattle.graph_file.specs.declared.line.Statement.TheVariants.{Sparse, Call, Memo, Map}
+use Rattle.graph_file.specs.declared.line.Statement.TheVariants.{Sparse, Call, Memo, Map, Laurent}
 
 -- the names of the graphs, in the order of the file
 abbrev pub graph_names_in : List Line → List (List ℕ)
@@ -23,6 +23,7 @@ abbrev pub called_by : Statement → Option (List ℕ)
 called_by (Call graph parts) = Some graph
 called_by (Memo graph parts) = Some graph
 called_by (Map graph parts) = Some graph
+called_by (Laurent graph expansion parts) = Some graph
 called_by _ = None
 
 -- the number of the graph with this name, counted from 0

@@ -1,6 +1,6 @@
 -- What may be wrong with a line, given what the lines before it say. Earlier lines stand in a list with the last one
 -- first, and those that are passed over are left out.
-use Rattle.std.specs.Prelude.{ℕ, ◌≡◌, ◌+◌, ◌*◌, ◌<◌, Bool, true, false, not, ◌&&◌, ◌||◌, ◌==◌, nat_le, nat_lt, if◌then◌else◌, List, [], ◌∷◌, ◌++◌, length, map, Option, Some, None, is_some, bytes_eq, codes, slice_get}
+use Rattle.std.specs.Prelude.{ℕ, pos, negsuc, int_le, ◌≡◌, ◌+◌, ◌*◌, ◌<◌, Bool, true, false, not, ◌&&◌, ◌||◌, ◌==◌, nat_le, nat_lt, if◌then◌else◌, List, [], ◌∷◌, ◌++◌, length, map, Option, Some, None, is_some, bytes_eq, codes, slice_get}
 use Rattle.std.specs.List.{list_all, list_any}
 use Rattle.ratfun_text.specs.Faults.{IsFaultless, IsFirst}
 use Rattle.ratfun_text.specs.declared.names.Names.{Names}
@@ -10,10 +10,11 @@ use Rattle.graph_file.specs.declared.error.FileKind.{FileKind}
 use Rattle.graph_file.specs.declared.error.FileKind.TheVariants.{Syntax, Version, Repeated, UnknownGraph, UnknownNode, Residue, Limit, Expr}
 use Rattle.graph_file.specs.declared.job.Special.{Special}
 use Rattle.graph_file.specs.declared.line.Degrees.{Degrees}
+use Rattle.graph_file.specs.declared.line.Expansion.{Expansion}
 use Rattle.graph_file.specs.declared.line.Line.{Line}
 use Rattle.graph_file.specs.declared.line.Line.TheVariants.{Flow, Graph, Input, Node, Row, Output, Point, Bounds, Coeff}
 use Rattle.graph_file.specs.declared.line.Statement.{Statement}
-use Rattle.graph_file.specs.declared.line.Statement.TheVariants.{Eval, Take, Slice, Chain, Sum, Product, Matmul, Dense, Sparse, Call, Memo, Map}
+use Rattle.graph_file.specs.declared.line.Statement.TheVariants.{Eval, Take, Slice, Chain, Sum, Product, Matmul, Dense, Sparse, Call, Memo, Map, Laurent}
 use Rattle.graph_file.specs.declared.line.Want.{Want}
 use Rattle.graph_file.specs.declared.line.Want.TheVariants.{Every, Numbers}
 use Rattle.graph_file.specs.declared.line.Which.{Which}
@@ -22,7 +23,7 @@ use Rattle.poly_maps.specs.declared.bound.Bounds.{Bounds as BoundsOf}
 use Rattle.rational_lift.specs.Joined.{both}
 use Rattle.ray_grid.specs.Grid.{point_count}
 use Rattle.ray_grid.specs.declared.grid.Grid.{Grid}
-use Rattle.multivar_recon.specs.Covering.{monomial_count}
+use Rattle.ray_grid.specs.Covering.{monomial_count}
 use Rattle.graph_file.specs.Bounding.{all_in, bounds_given, bounds_said, coeff_in, grid_with, special_in, widest}
 use Rattle.graph_file.specs.Facts.{called_by, depth_over, depths_in, earlier_names_in, entries_in, graph_names_in, is_job_line, node_names_in, points_in, unknowns_in, variables_in}
 use Rattle.graph_file.specs.Line.{texts_in}
@@ -126,6 +127,7 @@ lists_in (Sparse from unknowns want) = from ∷ []
 lists_in (Call graph parts) = parts
 lists_in (Memo graph parts) = parts
 lists_in (Map graph parts) = parts
+lists_in (Laurent graph expansion parts) = parts
 
 -- none of these graphs has the name
 abbrev pub is_not_among : List (List ℕ) → Option (List ℕ) → Bool
@@ -182,6 +184,10 @@ is_system rows unknowns want = is_counted rows 512 && is_counted unknowns 511 &&
 abbrev pub is_sparse : ℕ → Want → Bool
 is_sparse unknowns want = is_counted unknowns 4096 && is_want unknowns want
 
+-- orders from -64 to 64, the lowest at most the highest, and degrees of at most 64
+abbrev pub is_expansion : Expansion → Bool
+is_expansion expansion = int_le (negsuc 63) expansion.lo && int_le expansion.lo expansion.hi && int_le expansion.hi (pos 64) && nat_le expansion.num 64 && nat_le expansion.den 64
+
 -- the numbers of a node are in their ranges
 abbrev pub is_in_range : Statement → Bool
 is_in_range (Take parts) = list_all (λ part. is_position part.1) parts
@@ -189,6 +195,7 @@ is_in_range (Slice from first last) = is_range first last
 is_in_range (Matmul left right rows mid cols) = is_product rows mid cols
 is_in_range (Dense from rows unknowns want) = is_system rows unknowns want
 is_in_range (Sparse from unknowns want) = is_sparse unknowns want
+is_in_range (Laurent graph expansion parts) = is_expansion expansion
 is_in_range _ = true
 
 -- the calls of graphs go at most 8 deep with this node

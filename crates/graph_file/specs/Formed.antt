@@ -5,7 +5,7 @@ use Rattle.ratfun_text.specs.Bytes.{is_name}
 use Rattle.graph_file.specs.declared.line.Line.{Line}
 use Rattle.graph_file.specs.declared.line.Line.TheVariants.{Flow, Graph, Input, Node, Row, Output, Point, Bounds, Coeff}
 use Rattle.graph_file.specs.declared.line.Statement.{Statement}
-use Rattle.graph_file.specs.declared.line.Statement.TheVariants.{Eval, Take, Slice, Chain, Sum, Product, Matmul, Dense, Sparse, Call, Memo, Map}
+use Rattle.graph_file.specs.declared.line.Statement.TheVariants.{Eval, Take, Slice, Chain, Sum, Product, Matmul, Dense, Sparse, Call, Memo, Map, Laurent}
 use Rattle.graph_file.specs.declared.line.Want.{Want}
 use Rattle.graph_file.specs.declared.line.Want.TheVariants.{Every, Numbers}
 
@@ -28,6 +28,7 @@ IsWhole most (Sparse from unknowns want) = IsWant want
 IsWhole most (Call graph parts) = 1 ≤ length parts
 IsWhole most (Memo graph parts) = 1 ≤ length parts
 IsWhole most (Map graph parts) = 1 ≤ length parts
+IsWhole most (Laurent graph expansion parts) = Unit {0}
 
 -- the numbers ascend so far as they are below the greatest that is kept
 abbrev pub Ascend : List ℕ → Type 0

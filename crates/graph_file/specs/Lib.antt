@@ -17,5 +17,4 @@ pub mod Read
 pub mod Reader
 pub mod Says
 pub mod Sound
-pub mod Table
 pub mod Whole

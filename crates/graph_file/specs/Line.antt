@@ -1,13 +1,14 @@
 -- What the words of a line say: a pattern for each kind of line. A line that fits no pattern says nothing.
-use Rattle.std.specs.Prelude.{ℕ, ◌+◌, ◌-◌, ◌^◌, min, ◌==◌, Bool, true, false, ◌&&◌, nat_lt, if◌then◌else◌, List, [], ◌∷◌, map, take, drop, Option, Some, None, option_and_then, option_map, bytes_eq, codes}
+use Rattle.std.specs.Prelude.{ℕ, ℤ, pos, neg_ℤ, ◌+◌, ◌-◌, ◌^◌, min, ◌==◌, Bool, true, false, ◌&&◌, nat_lt, if◌then◌else◌, List, [], ◌∷◌, map, take, drop, Option, Some, None, option_and_then, option_map, bytes_eq, codes}
 use Rattle.std.specs.List.{slice_split, list_all, position_or_len}
 use Rattle.ratfun_text.specs.Bytes.{is_name, number_of}
 use Rattle.graph_file.specs.Lines.{is_plain, words, after_words}
 use Rattle.graph_file.specs.declared.line.Degrees.{Degrees}
+use Rattle.graph_file.specs.declared.line.Expansion.{Expansion}
 use Rattle.graph_file.specs.declared.line.Line.{Line}
 use Rattle.graph_file.specs.declared.line.Line.TheVariants.{Flow, Graph, Input, Node, Row, Output, Point, Bounds, Coeff}
 use Rattle.graph_file.specs.declared.line.Statement.{Statement}
-use Rattle.graph_file.specs.declared.line.Statement.TheVariants.{Eval, Take, Slice, Chain, Sum, Product, Matmul, Dense, Sparse, Call, Memo, Map}
+use Rattle.graph_file.specs.declared.line.Statement.TheVariants.{Eval, Take, Slice, Chain, Sum, Product, Matmul, Dense, Sparse, Call, Memo, Map, Laurent}
 use Rattle.graph_file.specs.declared.line.Which.{Which}
 use Rattle.graph_file.specs.declared.line.Which.TheVariants as which
 use Rattle.graph_file.specs.declared.line.Want.{Want}
@@ -208,6 +209,23 @@ abbrev pub map_node : List (List ℕ) → Option Statement
 map_node (graph ∷ list ∷ lists) = Some (Map graph (list ∷ lists))
 map_node _ = None
 
+-- the size of an order: 2^31 - 1 stands for every greater number too
+abbrev pub order_size_of : List ℕ → Option ℕ
+order_size_of word = option_map (λ n. min n (2 ^ 31 - 1)) (number_of word)
+
+-- an order: a number, or `-` directly followed by one
+abbrev pub order_of : List ℕ → Option ℤ
+order_of [] = None
+order_of (first ∷ later) = if first == 45 then option_map (λ n. neg_ℤ (pos n)) (order_size_of later) else option_map (λ n. pos n) (order_size_of (first ∷ later))
+
+abbrev pub expansion_from : Option ℤ → Option ℤ → Option ℕ → Option ℕ → Option Expansion
+expansion_from lo hi num den = option_and_then (λ lo. option_and_then (λ hi. option_and_then (λ num. option_map (λ den. record { lo = lo; hi = hi; num = num; den = den }) den) num) hi) lo
+
+-- `laurent GRAPH INT INT NUM NUM`, and then nothing or `LIST ..`
+abbrev pub laurent_node : List (List ℕ) → Option Statement
+laurent_node (graph ∷ lo ∷ hi ∷ num ∷ den ∷ lists) = option_map (λ expansion. Laurent graph expansion lists) (expansion_from (order_of lo) (order_of hi) (size_of num) (size_of den))
+laurent_node _ = None
+
 -- what a `node` line says of its node, from the word for its kind on
 abbrev pub statement_of : List ℕ → List ℕ → List (List ℕ) → Option Statement
 statement_of line kind arguments =
@@ -222,7 +240,8 @@ statement_of line kind arguments =
     if bytes_eq kind (codes "sparse") then sparse_node arguments else
     if bytes_eq kind (codes "call") then call_node arguments else
     if bytes_eq kind (codes "memo") then memo_node arguments else
-    if bytes_eq kind (codes "map") then map_node arguments else None
+    if bytes_eq kind (codes "map") then map_node arguments else
+    if bytes_eq kind (codes "laurent") then laurent_node arguments else None
 
 -- `node NAME KIND ..`
 abbrev pub node_line : List ℕ → List (List ℕ) → Option Line

@@ -3,7 +3,7 @@ use Rattle.std.specs.Prelude.{ℕ}
 use Rattle.std.proofs.Props as below
 use Rattle.graph_file.specs.Sound.{IsEarlier, IsKind}
 use Rattle.graph_file.specs.declared.graph.NodeKind.{NodeKind}
-use Rattle.graph_file.specs.declared.graph.NodeKind.TheVariants.{Eval, Take, Slice, Chain, Sum, Product, Matmul, Dense, Sparse, Call, Memo, Map}
+use Rattle.graph_file.specs.declared.graph.NodeKind.TheVariants.{Eval, Take, Slice, Chain, Sum, Product, Matmul, Dense, Sparse, Call, Memo, Map, Laurent}
 use Rattle.graph_file.specs.declared.graph.Source.{Source}
 use Rattle.graph_file.specs.declared.graph.Source.TheVariants as source
 
@@ -24,5 +24,6 @@ IsKind-prop variables number (Sparse from unknowns want rows) = Prim.hlevel (IsE
 IsKind-prop variables number (Call graph parts) = Prim.hlevel (IsEarlier-prop, below.props)
 IsKind-prop variables number (Memo graph parts) = Prim.hlevel (IsEarlier-prop, below.props)
 IsKind-prop variables number (Map graph parts) = Prim.hlevel (IsEarlier-prop, below.props)
+IsKind-prop variables number (Laurent graph lo hi num den parts) = Prim.hlevel (IsEarlier-prop, below.props)
 
 pub ruleset props = (IsKind-prop, below.props)

@@ -21,7 +21,7 @@ use Rattle.graph_file.specs.Sound.{IsGraph}
 
 -- what the reader keeps fits together
 abbrev pub FitsTogether : Reader → Type 0
-FitsTogether reader = IsSound reader.stood reader.name reader.variables reader.table.names reader.nodes.items reader.unknowns reader.entries reader.output reader.asked.points
+FitsTogether reader = IsSound reader.stood reader.name reader.variables reader.table reader.nodes.items reader.unknowns reader.entries reader.output reader.asked.points
 
 -- these are sound graphs, as these lines say, the last of which stands first: the first of them, in the order of the file
 pub record AreFirst (earlier : List Line) (graphs : List Graph) : Type 0 where
@@ -50,11 +50,11 @@ pub record AreDepths (earlier : List Line) (depths : List ℕ) : Type 0 where
 -- the reader keeps what these lines say, the last of which stands first, and that fits together
 pub record IsRead (earlier : List Line) (reader : Reader) : Type 0 where
   pub last_is : reader.stood ≡ last_of earlier
-  pub graphs_are : AreBehind earlier reader.graph_names.names reader.graphs
+  pub graphs_are : AreBehind earlier reader.graph_names reader.graphs
   pub depths_are : AreDepths earlier reader.depths.items
   pub name_is : reader.name ≡ graph_name_in earlier
   pub variables_are : reader.variables ≡ Listed (variables_in earlier)
-  pub names_are : reader.table.names ≡ node_names_in earlier
+  pub names_are : reader.table ≡ node_names_in earlier
   pub unknowns_are : reader.unknowns ≡ unknowns_in earlier
   pub entries_are : reader.entries ≡ entries_in earlier
   pub kinds_are : AreKinds earlier (kinds_of reader.nodes.items)

@@ -14,10 +14,11 @@ use Rattle.graph_file.specs.declared.graph.Source.{Source}
 use Rattle.graph_file.specs.declared.graph.Source.TheVariants as source
 use Rattle.graph_file.specs.declared.job.Job.{Job}
 use Rattle.graph_file.specs.declared.job.Need.{Need}
+use Rattle.graph_file.specs.declared.line.Expansion.{Expansion}
 use Rattle.graph_file.specs.declared.line.Line.{Line}
 use Rattle.graph_file.specs.declared.line.Line.TheVariants as line
 use Rattle.graph_file.specs.declared.line.Statement.{Statement}
-use Rattle.graph_file.specs.declared.line.Statement.TheVariants.{Eval, Take, Slice, Chain, Sum, Product, Matmul, Dense, Sparse, Call, Memo, Map}
+use Rattle.graph_file.specs.declared.line.Statement.TheVariants.{Eval, Take, Slice, Chain, Sum, Product, Matmul, Dense, Sparse, Call, Memo, Map, Laurent}
 use Rattle.graph_file.specs.declared.line.Want.{Want}
 use Rattle.graph_file.specs.declared.line.Want.TheVariants.{Every, Numbers}
 use Rattle.poly_maps.specs.declared.bound.Bounds.{Bounds}
@@ -92,6 +93,9 @@ memo_of graphs nodes graph lists = option_map (λ call. node.Memo call.0 call.1)
 abbrev pub map_of : List (List ℕ) → List (List ℕ) → List ℕ → List (List ℕ) → Option NodeKind
 map_of graphs nodes graph lists = option_map (λ call. node.Map call.0 call.1) (call_parts graphs nodes graph lists)
 
+abbrev pub laurent_of : List (List ℕ) → List (List ℕ) → List ℕ → Expansion → List (List ℕ) → Option NodeKind
+laurent_of graphs nodes graph expansion lists = option_map (λ call. node.Laurent call.0 expansion.lo expansion.hi expansion.num expansion.den call.1) (call_parts graphs nodes graph lists)
+
 -- what a node computes by its line, where the earlier graphs and the earlier nodes have these names and its expressions these trees
 abbrev pub kind_of : List (List ℕ) → List (List ℕ) → List Expr → Statement → Option NodeKind
 kind_of graphs nodes exprs (Eval from texts) = eval_of nodes from exprs
@@ -106,6 +110,7 @@ kind_of graphs nodes exprs (Sparse from unknowns want) = sparse_of nodes from un
 kind_of graphs nodes exprs (Call graph lists) = call_of graphs nodes graph lists
 kind_of graphs nodes exprs (Memo graph lists) = memo_of graphs nodes graph lists
 kind_of graphs nodes exprs (Map graph lists) = map_of graphs nodes graph lists
+kind_of graphs nodes exprs (Laurent graph expansion lists) = laurent_of graphs nodes graph expansion lists
 
 -- what the node of a line computes, where the lines before it are these
 pub record IsKindOf (earlier : List Line) (name : List ℕ) (statement : Statement) (kind : NodeKind) : Type 0 where

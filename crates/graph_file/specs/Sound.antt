@@ -1,5 +1,5 @@
 -- What holds of the graphs and points of every file that is read.
-use Rattle.std.specs.Prelude.{◌≡◌, ◌≢◌, ℕ, ◌<◌, ◌≤◌, ◌-◌, ◌*◌, List, length, Option, Some, None, IsTrue, codes, slice_get}
+use Rattle.std.specs.Prelude.{◌≡◌, ◌≢◌, ℕ, ℤ, pos, negsuc, ◌≤ℤ◌, ◌<◌, ◌≤◌, ◌-◌, ◌*◌, List, length, Option, Some, None, IsTrue, codes, slice_get}
 use Rattle.ratfun_text.specs.Bytes.{is_name}
 use Rattle.ratfun_text.specs.Value.{greatest}
 use Rattle.ratfun_text.specs.declared.expr.Expr.{Expr}
@@ -10,7 +10,7 @@ use Rattle.graph_file.specs.Needed.{IsNeeded}
 use Rattle.graph_file.specs.declared.graph.Graph.{Graph}
 use Rattle.graph_file.specs.declared.graph.Node.{Node}
 use Rattle.graph_file.specs.declared.graph.NodeKind.{NodeKind}
-use Rattle.graph_file.specs.declared.graph.NodeKind.TheVariants.{Eval, Take, Slice, Chain, Sum, Product, Matmul, Dense, Sparse, Call, Memo, Map}
+use Rattle.graph_file.specs.declared.graph.NodeKind.TheVariants.{Eval, Take, Slice, Chain, Sum, Product, Matmul, Dense, Sparse, Call, Memo, Map, Laurent}
 use Rattle.graph_file.specs.declared.graph.Source.{Source}
 use Rattle.graph_file.specs.declared.graph.Source.TheVariants as source
 
@@ -95,6 +95,15 @@ pub record IsSparse (number : ℕ) (from : Source) (unknowns : ℕ) (want : List
   pub wanted : AreUnknowns unknowns want
   pub filled : AreFewRows unknowns rows
 
+-- orders from -64 to 64, the lowest at most the highest, degrees of at most 64, and any number of lists
+pub record IsLaurent (number : ℕ) (lo hi : ℤ) (num den : ℕ) (parts : List Source) : Type 0 where
+  pub earlier : (k : ℕ) (from : Source) → slice_get parts k ≡ Some from → IsEarlier number from
+  pub lowest : negsuc 63 ≤ℤ lo
+  pub ordered : lo ≤ℤ hi
+  pub highest : hi ≤ℤ pos 64
+  pub num_low : num ≤ 64
+  pub den_low : den ≤ 64
+
 -- in a graph of this many variables the node with this number, counted from 0, may compute this
 abbrev pub IsKind : ℕ → ℕ → NodeKind → Type 0
 IsKind variables number (Eval from exprs) = IsEval variables number from exprs
@@ -109,12 +118,14 @@ IsKind variables number (Sparse from unknowns want rows) = IsSparse number from 
 IsKind variables number (Call graph parts) = AreLists number parts
 IsKind variables number (Memo graph parts) = AreLists number parts
 IsKind variables number (Map graph parts) = AreLists number parts
+IsKind variables number (Laurent graph lo hi num den parts) = IsLaurent number lo hi num den parts
 
 -- the number, counted from 0, of the graph that a node calls
 abbrev pub called_graph : NodeKind → Option ℕ
 called_graph (Call graph parts) = Some graph
 called_graph (Memo graph parts) = Some graph
 called_graph (Map graph parts) = Some graph
+called_graph (Laurent graph lo hi num den parts) = Some graph
 called_graph _ = None
 
 -- the graphs that a graph's nodes call stand before the one with this number, counted from 0

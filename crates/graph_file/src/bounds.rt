@@ -2,7 +2,7 @@
 ghost use Rattle.std.specs.Prelude.{◌≡◌, ◌≢◌, ◌≤◌, ℕ, [], None, Some, slice_get};
 ghost use Rattle.poly_maps.specs.declared.bound.Bounds.{Bounds as BoundsOf};
 ghost use Rattle.ray_grid.specs.Grid.{IsGrid, bound_of, point_count};
-ghost use Rattle.multivar_recon.specs.Covering.{Covers};
+ghost use Rattle.ray_grid.specs.Covering.{Covers};
 ghost use Rattle.graph_file.specs.declared.job.Special.{Special as SpecialOf};
 ghost use Rattle.graph_file.specs.Asked.{AreLow};
 ghost use Rattle.graph_file.specs.Bounded.{AreBounds, main_variables};

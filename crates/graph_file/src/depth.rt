@@ -4,12 +4,13 @@ ghost use Rattle.graph_file.specs.Facts as spec;
 
 use crate::line::Statement;
 use crate::table::Table;
+use ratfun_text::Name;
 use std::alloc::AllocError;
 
 /// The number, counted from 0, of the graph with this name among the first of these, as many as `count`.
-pub fn graph_named(graphs: &Table, count: usize, graph: &[u8]) -> Option<u32>
-    requires { length graphs.now.names ≤ 64 }
-    ensures { result ≡ spec.graph_named (take count graphs.now.names) graph.now }
+pub fn graph_named(graphs: &Table, count: usize, graph: &Name) -> Option<u32>
+    requires { length graphs.now ≤ 64 }
+    ensures { result ≡ spec.graph_named (take count graphs.now) graph.now }
 {
     let Some(number) = graphs.number(graph) else {
         return None;
@@ -21,10 +22,10 @@ pub fn graph_named(graphs: &Table, count: usize, graph: &[u8]) -> Option<u32>
 }
 
 /// One more than the depth of the graph with this name.
-fn depth_above(graphs: &Table, count: usize, depths: &[u32], graph: &[u8]) -> u32
-    requires few { length graphs.now.names ≤ 64 }
+fn depth_above(graphs: &Table, count: usize, depths: &[u32], graph: &Name) -> u32
+    requires few { length graphs.now ≤ 64 }
     requires low { (k depth : ℕ) → slice_get depths.now k ≡ Some depth → depth ≤ 8 }
-    ensures { result ≡ spec.depth_over (take count graphs.now.names) depths.now (Some graph.now) }
+    ensures { result ≡ spec.depth_over (take count graphs.now) depths.now (Some graph.now) }
 {
     let Some(number) = graph_named(graphs, count, graph) else {
         return 1;
@@ -38,14 +39,19 @@ fn depth_above(graphs: &Table, count: usize, depths: &[u32], graph: &[u8]) -> u3
 /// The depth of calls to which a node brings its graph, where the graphs before it are the first `count` of these: 1, or one
 /// more than that of the graph that it calls.
 pub fn depth_over(graphs: &Table, count: usize, depths: &[u32], statement: &Statement) -> u32
-    requires few { length graphs.now.names ≤ 64 }
+    requires few { length graphs.now ≤ 64 }
     requires low { (k depth : ℕ) → slice_get depths.now k ≡ Some depth → depth ≤ 8 }
-    ensures { result ≡ spec.depth_over (take count graphs.now.names) depths.now (spec.called_by statement.now) }
+    ensures { result ≡ spec.depth_over (take count graphs.now) depths.now (spec.called_by statement.now) }
 {
     match statement {
-        Statement::Call { graph, parts: _ } => depth_above(graphs, count, depths, graph.bytes()),
-        Statement::Memo { graph, parts: _ } => depth_above(graphs, count, depths, graph.bytes()),
-        Statement::Map { graph, parts: _ } => depth_above(graphs, count, depths, graph.bytes()),
+        Statement::Call { graph, parts: _ } => depth_above(graphs, count, depths, graph),
+        Statement::Memo { graph, parts: _ } => depth_above(graphs, count, depths, graph),
+        Statement::Map { graph, parts: _ } => depth_above(graphs, count, depths, graph),
+        Statement::Laurent {
+            graph,
+            expansion: _,
+            parts: _,
+        } => depth_above(graphs, count, depths, graph),
         _ => 1,
     }
 }

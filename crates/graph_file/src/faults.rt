@@ -12,13 +12,12 @@ ghost use Rattle.ray_grid.specs.Grid.{IsGrid};
 use crate::asked::{bounds_said, is_given, widened};
 use crate::depth::{depth_over, graph_named};
 use crate::error::FileKind;
-use crate::line::{Degrees, Last, Line, Statement, Want, Which};
+use crate::line::{Degrees, Expansion, Last, Line, Statement, Want, Which};
 use crate::reader::Reader;
 use crate::table::Table;
-use multivar_recon::has_few;
 use poly_maps::Bounds;
 use ratfun_text::{Name, Names};
-use ray_grid::{Grid, size};
+use ray_grid::{Grid, has_few, size};
 use std::alloc::{AllocError, Global};
 
 /// The most bytes of a name that a line gives.
@@ -53,6 +52,12 @@ const SPARSE_UNKNOWNS: u32 = 4096;
 
 /// The most entries of all rows of a sparse node.
 const ENTRIES: usize = 65536;
+
+/// How far the orders of an expansion may be from 0.
+const ORDERS: i32 = 64;
+
+/// The greatest degree of the numerator and of the denominator of a quotient that is expanded.
+const EXPANSION_DEGREE: u32 = 64;
 
 /// What each entry of a point is below: 2^61 - 1.
 const ENTRY_LIMIT: u64 = 2305843009213693951;
@@ -122,10 +127,10 @@ fn is_version(line: &Line) -> bool
 }
 
 /// Whether this is `input` or the name of a node.
-pub fn is_known(nodes: &Table, name: &[u8]) -> bool
-    ensures { result ≡ spec.is_known nodes.now.names name.now }
+pub fn is_known(nodes: &Table, name: &Name) -> bool
+    ensures { result ≡ spec.is_known nodes.now name.now }
 {
-    name == b"input".as_slice() || nodes.has(name)
+    name.bytes() == b"input".as_slice() || nodes.has(name)
 }
 
 fn are_new(alloc: Global, names: &[Name]) -> Result<bool, AllocError>
@@ -133,10 +138,10 @@ fn are_new(alloc: Global, names: &[Name]) -> Result<bool, AllocError>
 {
     let mut before = Table::new(alloc);
     for name in names {
-        if before.has(name.bytes()) {
+        if before.has(name) {
             return Ok(false);
         }
-        before = before.with(alloc, name.bytes())?;
+        before.add(alloc, name)?;
     }
     Ok(true)
 }
@@ -145,12 +150,12 @@ fn is_repeated(reader: &Reader, line: &Line) -> Result<bool, AllocError>
     ensures { IfOk result (λ is_repeated. (earlier : List LineOf) → IsRead earlier reader.now → is_repeated ≡ spec.is_repeated earlier line.now) }
 {
     match line {
-        Line::Graph(name) => Ok(reader.graph_names.has(name.bytes())),
+        Line::Graph(name) => Ok(reader.graph_names.has(name)),
         Line::Input(names) => {
             let are_new = are_new(reader.alloc, names.as_slice())?;
             Ok(!are_new)
         }
-        Line::Node(name, _) => Ok(is_known(&reader.table, name.bytes())),
+        Line::Node(name, _) => Ok(is_known(&reader.table, name)),
         Line::Bounds(outputs, _, _) => Ok(is_given(&reader.asked, *outputs)),
         Line::Coeff(_, _) => Ok(reader.asked.coeff.is_some()),
         _ => Ok(false),
@@ -158,28 +163,28 @@ fn is_repeated(reader: &Reader, line: &Line) -> Result<bool, AllocError>
 }
 
 fn are_known(nodes: &Table, lists: &[Name]) -> bool
-    ensures { result ≡ list_all (spec.is_known nodes.now.names) lists.now }
+    ensures { result ≡ list_all (spec.is_known nodes.now) lists.now }
 {
-    lists.iter().all(|list| is_known(nodes, list.bytes()))
+    lists.iter().all(|list| is_known(nodes, list))
 }
 
 fn are_parts_known(nodes: &Table, parts: &[(Name, u32)]) -> bool
-    ensures { result ≡ list_all (spec.is_known nodes.now.names) (map (λ part. part.0) parts.now) }
+    ensures { result ≡ list_all (spec.is_known nodes.now) (map (λ part. part.0) parts.now) }
 {
-    parts.iter().all(|(list, _)| is_known(nodes, list.bytes()))
+    parts.iter().all(|(list, _)| is_known(nodes, list))
 }
 
 fn are_lists_known(nodes: &Table, statement: &Statement) -> bool
-    ensures { result ≡ list_all (spec.is_known nodes.now.names) (spec.lists_in statement.now) }
+    ensures { result ≡ list_all (spec.is_known nodes.now) (spec.lists_in statement.now) }
 {
     match statement {
-        Statement::Eval { from, texts: _ } => is_known(nodes, from.bytes()),
+        Statement::Eval { from, texts: _ } => is_known(nodes, from),
         Statement::Take { parts } => are_parts_known(nodes, parts.as_slice()),
         Statement::Slice {
             from,
             first: _,
             last: _,
-        } => is_known(nodes, from.bytes()),
+        } => is_known(nodes, from),
         Statement::Chain { parts } => are_known(nodes, parts.as_slice()),
         Statement::Sum { parts } => are_known(nodes, parts.as_slice()),
         Statement::Product { parts } => are_known(nodes, parts.as_slice()),
@@ -189,24 +194,34 @@ fn are_lists_known(nodes: &Table, statement: &Statement) -> bool
             rows: _,
             mid: _,
             cols: _,
-        } => is_known(nodes, left.bytes()) && is_known(nodes, right.bytes()),
-        Statement::Dense { from, .. } => is_known(nodes, from.bytes()),
-        Statement::Sparse { from, .. } => is_known(nodes, from.bytes()),
+        } => is_known(nodes, left) && is_known(nodes, right),
+        Statement::Dense { from, .. } => is_known(nodes, from),
+        Statement::Sparse { from, .. } => is_known(nodes, from),
         Statement::Call { graph: _, parts } => are_known(nodes, parts.as_slice()),
         Statement::Memo { graph: _, parts } => are_known(nodes, parts.as_slice()),
         Statement::Map { graph: _, parts } => are_known(nodes, parts.as_slice()),
+        Statement::Laurent {
+            graph: _,
+            expansion: _,
+            parts,
+        } => are_known(nodes, parts.as_slice()),
     }
 }
 
 /// Whether a node calls another graph than one of the first of these, as many as `count`.
 fn is_not_among(graphs: &Table, count: usize, statement: &Statement) -> bool
-    requires { length graphs.now.names ≤ 64 }
-    ensures { result ≡ spec.is_not_among (take count graphs.now.names) (facts.called_by statement.now) }
+    requires { length graphs.now ≤ 64 }
+    ensures { result ≡ spec.is_not_among (take count graphs.now) (facts.called_by statement.now) }
 {
     match statement {
-        Statement::Call { graph, parts: _ } => graph_named(graphs, count, graph.bytes()).is_none(),
-        Statement::Memo { graph, parts: _ } => graph_named(graphs, count, graph.bytes()).is_none(),
-        Statement::Map { graph, parts: _ } => graph_named(graphs, count, graph.bytes()).is_none(),
+        Statement::Call { graph, parts: _ } => graph_named(graphs, count, graph).is_none(),
+        Statement::Memo { graph, parts: _ } => graph_named(graphs, count, graph).is_none(),
+        Statement::Map { graph, parts: _ } => graph_named(graphs, count, graph).is_none(),
+        Statement::Laurent {
+            graph,
+            expansion: _,
+            parts: _,
+        } => graph_named(graphs, count, graph).is_none(),
         _ => false,
     }
 }
@@ -228,7 +243,7 @@ fn is_unknown_node(reader: &Reader, line: &Line) -> bool
 {
     match line {
         Line::Node(_, statement) => !are_lists_known(&reader.table, statement),
-        Line::Output(list) => !is_known(&reader.table, list.bytes()),
+        Line::Output(list) => !is_known(&reader.table, list),
         _ => false,
     }
 }
@@ -316,6 +331,16 @@ fn is_sparse(unknowns: u32, want: &Want) -> bool
     is_counted(unknowns, SPARSE_UNKNOWNS) && is_want(unknowns, want)
 }
 
+fn is_expansion(expansion: Expansion) -> bool
+    ensures { result ≡ spec.is_expansion expansion }
+{
+    -ORDERS <= expansion.lo
+        && expansion.lo <= expansion.hi
+        && expansion.hi <= ORDERS
+        && expansion.num <= EXPANSION_DEGREE
+        && expansion.den <= EXPANSION_DEGREE
+}
+
 fn is_in_range(statement: &Statement) -> bool
     ensures { result ≡ spec.is_in_range statement.now }
 {
@@ -344,6 +369,11 @@ fn is_in_range(statement: &Statement) -> bool
             unknowns,
             want,
         } => is_sparse(*unknowns, want),
+        Statement::Laurent {
+            graph: _,
+            expansion,
+            parts: _,
+        } => is_expansion(*expansion),
         _ => true,
     }
 }

@@ -82,6 +82,18 @@ pub enum NodeKind {
         graph: u32,
         parts: Items<Source>,
     },
+    /// For each entry of the output of an earlier graph of the file the coefficients of its expansion in powers of the
+    /// graph's first variable, from the order `lo` to the order `hi`. As a quotient in that variable the entry has a
+    /// numerator of degree at most `num` and a denominator of degree at most `den`. The graph's other variables are the
+    /// entries of the lists, one after the other; there may be no list.
+    Laurent {
+        graph: u32,
+        lo: i32,
+        hi: i32,
+        num: u32,
+        den: u32,
+        parts: Items<Source>,
+    },
 }
 
 /// A node of a graph.

@@ -6,18 +6,18 @@ ghost use Rattle.graph_file.specs.Says as spec;
 
 use crate::depth::graph_named;
 use crate::graph::{NodeKind, Source};
-use crate::line::{Statement, Want};
+use crate::line::{Expansion, Statement, Want};
 use crate::table::Table;
 use ratfun_text::{Expr, Name};
 use sqlite_items::Items;
 use std::alloc::{AllocError, Global};
 
 /// The list with this name.
-pub fn source_named(nodes: &Table, list: &[u8]) -> Option<Source>
-    requires { length nodes.now.names ≤ 4096 }
-    ensures { result ≡ spec.source_named nodes.now.names list.now }
+pub fn source_named(nodes: &Table, list: &Name) -> Option<Source>
+    requires { length nodes.now ≤ 4096 }
+    ensures { result ≡ spec.source_named nodes.now list.now }
 {
-    if list == b"input".as_slice() {
+    if list.bytes() == b"input".as_slice() {
         return Some(Source::Input);
     }
     let number = nodes.number(list)?;
@@ -29,12 +29,12 @@ fn sources_named(
     nodes: &Table,
     lists: &[Name],
 ) -> Result<Option<Items<Source>>, AllocError>
-    requires { length nodes.now.names ≤ 4096 }
-    ensures { IfOk result (λ sources. sources ≡ all_of (map (spec.source_named nodes.now.names) lists.now)) }
+    requires { length nodes.now ≤ 4096 }
+    ensures { IfOk result (λ sources. sources ≡ all_of (map (spec.source_named nodes.now) lists.now)) }
 {
     let mut sources = Items::new(alloc);
     for list in lists {
-        let Some(source) = source_named(nodes, list.bytes()) else {
+        let Some(source) = source_named(nodes, list) else {
             return Ok(None);
         };
         sources.push(source)?;
@@ -43,11 +43,11 @@ fn sources_named(
 }
 
 fn part_named(nodes: &Table, part: &(Name, u32)) -> Option<(Source, u32)>
-    requires { length nodes.now.names ≤ 4096 }
-    ensures { result ≡ spec.part_named nodes.now.names part.now }
+    requires { length nodes.now ≤ 4096 }
+    ensures { result ≡ spec.part_named nodes.now part.now }
 {
     let (list, position) = part;
-    let source = source_named(nodes, list.bytes())?;
+    let source = source_named(nodes, list)?;
     Some((source, *position))
 }
 
@@ -56,8 +56,8 @@ fn parts_named(
     nodes: &Table,
     parts: &[(Name, u32)],
 ) -> Result<Option<Items<(Source, u32)>>, AllocError>
-    requires { length nodes.now.names ≤ 4096 }
-    ensures { IfOk result (λ wanted. wanted ≡ all_of (map (spec.part_named nodes.now.names) parts.now)) }
+    requires { length nodes.now ≤ 4096 }
+    ensures { IfOk result (λ wanted. wanted ≡ all_of (map (spec.part_named nodes.now) parts.now)) }
 {
     let mut wanted = Items::new(alloc);
     for part in parts {
@@ -74,8 +74,8 @@ fn take_of(
     nodes: &Table,
     parts: &[(Name, u32)],
 ) -> Result<Option<NodeKind>, AllocError>
-    requires { length nodes.now.names ≤ 4096 }
-    ensures { IfOk result (λ kind. kind ≡ spec.take_of nodes.now.names parts.now) }
+    requires { length nodes.now ≤ 4096 }
+    ensures { IfOk result (λ kind. kind ≡ spec.take_of nodes.now parts.now) }
 {
     let Some(parts) = parts_named(alloc, nodes, parts)? else {
         return Ok(None);
@@ -84,8 +84,8 @@ fn take_of(
 }
 
 fn chain_of(alloc: Global, nodes: &Table, lists: &[Name]) -> Result<Option<NodeKind>, AllocError>
-    requires { length nodes.now.names ≤ 4096 }
-    ensures { IfOk result (λ kind. kind ≡ spec.chain_of nodes.now.names lists.now) }
+    requires { length nodes.now ≤ 4096 }
+    ensures { IfOk result (λ kind. kind ≡ spec.chain_of nodes.now lists.now) }
 {
     let Some(parts) = sources_named(alloc, nodes, lists)? else {
         return Ok(None);
@@ -94,8 +94,8 @@ fn chain_of(alloc: Global, nodes: &Table, lists: &[Name]) -> Result<Option<NodeK
 }
 
 fn sum_of(alloc: Global, nodes: &Table, lists: &[Name]) -> Result<Option<NodeKind>, AllocError>
-    requires { length nodes.now.names ≤ 4096 }
-    ensures { IfOk result (λ kind. kind ≡ spec.sum_of nodes.now.names lists.now) }
+    requires { length nodes.now ≤ 4096 }
+    ensures { IfOk result (λ kind. kind ≡ spec.sum_of nodes.now lists.now) }
 {
     let Some(parts) = sources_named(alloc, nodes, lists)? else {
         return Ok(None);
@@ -104,8 +104,8 @@ fn sum_of(alloc: Global, nodes: &Table, lists: &[Name]) -> Result<Option<NodeKin
 }
 
 fn product_of(alloc: Global, nodes: &Table, lists: &[Name]) -> Result<Option<NodeKind>, AllocError>
-    requires { length nodes.now.names ≤ 4096 }
-    ensures { IfOk result (λ kind. kind ≡ spec.product_of nodes.now.names lists.now) }
+    requires { length nodes.now ≤ 4096 }
+    ensures { IfOk result (λ kind. kind ≡ spec.product_of nodes.now lists.now) }
 {
     let Some(parts) = sources_named(alloc, nodes, lists)? else {
         return Ok(None);
@@ -113,9 +113,9 @@ fn product_of(alloc: Global, nodes: &Table, lists: &[Name]) -> Result<Option<Nod
     Ok(Some(NodeKind::Product { parts }))
 }
 
-fn eval_of(nodes: &Table, from: &[u8], exprs: Items<Expr>) -> Option<NodeKind>
-    requires { length nodes.now.names ≤ 4096 }
-    ensures { result ≡ spec.eval_of nodes.now.names from.now exprs }
+fn eval_of(nodes: &Table, from: &Name, exprs: Items<Expr>) -> Option<NodeKind>
+    requires { length nodes.now ≤ 4096 }
+    ensures { result ≡ spec.eval_of nodes.now from.now exprs }
 {
     let Some(from) = source_named(nodes, from) else {
         return None;
@@ -123,9 +123,9 @@ fn eval_of(nodes: &Table, from: &[u8], exprs: Items<Expr>) -> Option<NodeKind>
     Some(NodeKind::Eval { from, exprs })
 }
 
-fn slice_of(nodes: &Table, from: &[u8], first: u32, last: u32) -> Option<NodeKind>
-    requires { length nodes.now.names ≤ 4096 }
-    ensures { result ≡ spec.slice_of nodes.now.names from.now first last }
+fn slice_of(nodes: &Table, from: &Name, first: u32, last: u32) -> Option<NodeKind>
+    requires { length nodes.now ≤ 4096 }
+    ensures { result ≡ spec.slice_of nodes.now from.now first last }
 {
     let from = source_named(nodes, from)?;
     Some(NodeKind::Slice { from, first, last })
@@ -133,14 +133,14 @@ fn slice_of(nodes: &Table, from: &[u8], first: u32, last: u32) -> Option<NodeKin
 
 fn matmul_of(
     nodes: &Table,
-    left: &[u8],
-    right: &[u8],
+    left: &Name,
+    right: &Name,
     rows: u32,
     mid: u32,
     cols: u32,
 ) -> Option<NodeKind>
-    requires { length nodes.now.names ≤ 4096 }
-    ensures { result ≡ spec.matmul_of nodes.now.names left.now right.now rows mid cols }
+    requires { length nodes.now ≤ 4096 }
+    ensures { result ≡ spec.matmul_of nodes.now left.now right.now rows mid cols }
 {
     let left = source_named(nodes, left)?;
     let right = source_named(nodes, right)?;
@@ -177,13 +177,13 @@ fn wanted(alloc: Global, unknowns: u32, want: &Want) -> Result<Items<u32>, Alloc
 fn dense_of(
     alloc: Global,
     nodes: &Table,
-    from: &[u8],
+    from: &Name,
     rows: u32,
     unknowns: u32,
     want: &Want,
 ) -> Result<Option<NodeKind>, AllocError>
-    requires { length nodes.now.names ≤ 4096 }
-    ensures { IfOk result (λ kind. kind ≡ spec.dense_of nodes.now.names from.now rows unknowns want.now) }
+    requires { length nodes.now ≤ 4096 }
+    ensures { IfOk result (λ kind. kind ≡ spec.dense_of nodes.now from.now rows unknowns want.now) }
 {
     let Some(from) = source_named(nodes, from) else {
         return Ok(None);
@@ -200,12 +200,12 @@ fn dense_of(
 fn sparse_of(
     alloc: Global,
     nodes: &Table,
-    from: &[u8],
+    from: &Name,
     unknowns: u32,
     want: &Want,
 ) -> Result<Option<NodeKind>, AllocError>
-    requires { length nodes.now.names ≤ 4096 }
-    ensures { IfOk result (λ kind. kind ≡ spec.sparse_of nodes.now.names from.now unknowns want.now) }
+    requires { length nodes.now ≤ 4096 }
+    ensures { IfOk result (λ kind. kind ≡ spec.sparse_of nodes.now from.now unknowns want.now) }
 {
     let Some(from) = source_named(nodes, from) else {
         return Ok(None);
@@ -225,12 +225,12 @@ fn call_parts(
     graphs: &Table,
     count: usize,
     nodes: &Table,
-    graph: &[u8],
+    graph: &Name,
     lists: &[Name],
 ) -> Result<Option<(u32, Items<Source>)>, AllocError>
-    requires graphs { length graphs.now.names ≤ 64 }
-    requires nodes { length nodes.now.names ≤ 4096 }
-    ensures { IfOk result (λ call. call ≡ spec.call_parts (take count graphs.now.names) nodes.now.names graph.now lists.now) }
+    requires graphs { length graphs.now ≤ 64 }
+    requires nodes { length nodes.now ≤ 4096 }
+    ensures { IfOk result (λ call. call ≡ spec.call_parts (take count graphs.now) nodes.now graph.now lists.now) }
 {
     let Some(number) = graph_named(graphs, count, graph) else {
         return Ok(None);
@@ -246,12 +246,12 @@ fn call_of(
     graphs: &Table,
     count: usize,
     nodes: &Table,
-    graph: &[u8],
+    graph: &Name,
     lists: &[Name],
 ) -> Result<Option<NodeKind>, AllocError>
-    requires graphs { length graphs.now.names ≤ 64 }
-    requires nodes { length nodes.now.names ≤ 4096 }
-    ensures { IfOk result (λ kind. kind ≡ spec.call_of (take count graphs.now.names) nodes.now.names graph.now lists.now) }
+    requires graphs { length graphs.now ≤ 64 }
+    requires nodes { length nodes.now ≤ 4096 }
+    ensures { IfOk result (λ kind. kind ≡ spec.call_of (take count graphs.now) nodes.now graph.now lists.now) }
 {
     let Some((graph, parts)) = call_parts(alloc, graphs, count, nodes, graph, lists)? else {
         return Ok(None);
@@ -264,12 +264,12 @@ fn memo_of(
     graphs: &Table,
     count: usize,
     nodes: &Table,
-    graph: &[u8],
+    graph: &Name,
     lists: &[Name],
 ) -> Result<Option<NodeKind>, AllocError>
-    requires graphs { length graphs.now.names ≤ 64 }
-    requires nodes { length nodes.now.names ≤ 4096 }
-    ensures { IfOk result (λ kind. kind ≡ spec.memo_of (take count graphs.now.names) nodes.now.names graph.now lists.now) }
+    requires graphs { length graphs.now ≤ 64 }
+    requires nodes { length nodes.now ≤ 4096 }
+    ensures { IfOk result (λ kind. kind ≡ spec.memo_of (take count graphs.now) nodes.now graph.now lists.now) }
 {
     let Some((graph, parts)) = call_parts(alloc, graphs, count, nodes, graph, lists)? else {
         return Ok(None);
@@ -282,17 +282,43 @@ fn map_of(
     graphs: &Table,
     count: usize,
     nodes: &Table,
-    graph: &[u8],
+    graph: &Name,
     lists: &[Name],
 ) -> Result<Option<NodeKind>, AllocError>
-    requires graphs { length graphs.now.names ≤ 64 }
-    requires nodes { length nodes.now.names ≤ 4096 }
-    ensures { IfOk result (λ kind. kind ≡ spec.map_of (take count graphs.now.names) nodes.now.names graph.now lists.now) }
+    requires graphs { length graphs.now ≤ 64 }
+    requires nodes { length nodes.now ≤ 4096 }
+    ensures { IfOk result (λ kind. kind ≡ spec.map_of (take count graphs.now) nodes.now graph.now lists.now) }
 {
     let Some((graph, parts)) = call_parts(alloc, graphs, count, nodes, graph, lists)? else {
         return Ok(None);
     };
     Ok(Some(NodeKind::Map { graph, parts }))
+}
+
+fn laurent_of(
+    alloc: Global,
+    graphs: &Table,
+    count: usize,
+    nodes: &Table,
+    graph: &Name,
+    expansion: Expansion,
+    lists: &[Name],
+) -> Result<Option<NodeKind>, AllocError>
+    requires graphs { length graphs.now ≤ 64 }
+    requires nodes { length nodes.now ≤ 4096 }
+    ensures { IfOk result (λ kind. kind ≡ spec.laurent_of (take count graphs.now) nodes.now graph.now expansion lists.now) }
+{
+    let Some((graph, parts)) = call_parts(alloc, graphs, count, nodes, graph, lists)? else {
+        return Ok(None);
+    };
+    Ok(Some(NodeKind::Laurent {
+        graph,
+        lo: expansion.lo,
+        hi: expansion.hi,
+        num: expansion.num,
+        den: expansion.den,
+        parts,
+    }))
 }
 
 /// What a node computes, where the earlier graphs, which are the first `count` of these, and the earlier nodes have these
@@ -305,14 +331,14 @@ pub fn kind_of(
     exprs: Items<Expr>,
     statement: &Statement,
 ) -> Result<Option<NodeKind>, AllocError>
-    requires graphs { length graphs.now.names ≤ 64 }
-    requires nodes { length nodes.now.names ≤ 4096 }
-    ensures { IfOk result (λ kind. kind ≡ spec.kind_of (take count graphs.now.names) nodes.now.names exprs statement.now) }
+    requires graphs { length graphs.now ≤ 64 }
+    requires nodes { length nodes.now ≤ 4096 }
+    ensures { IfOk result (λ kind. kind ≡ spec.kind_of (take count graphs.now) nodes.now exprs statement.now) }
 {
     match statement {
-        Statement::Eval { from, texts: _ } => Ok(eval_of(nodes, from.bytes(), exprs)),
+        Statement::Eval { from, texts: _ } => Ok(eval_of(nodes, from, exprs)),
         Statement::Take { parts } => take_of(alloc, nodes, parts.as_slice()),
-        Statement::Slice { from, first, last } => Ok(slice_of(nodes, from.bytes(), *first, *last)),
+        Statement::Slice { from, first, last } => Ok(slice_of(nodes, from, *first, *last)),
         Statement::Chain { parts } => chain_of(alloc, nodes, parts.as_slice()),
         Statement::Sum { parts } => sum_of(alloc, nodes, parts.as_slice()),
         Statement::Product { parts } => product_of(alloc, nodes, parts.as_slice()),
@@ -322,24 +348,24 @@ pub fn kind_of(
             rows,
             mid,
             cols,
-        } => Ok(matmul_of(nodes, left.bytes(), right.bytes(), *rows, *mid, *cols)),
+        } => Ok(matmul_of(nodes, left, right, *rows, *mid, *cols)),
         Statement::Dense {
             from,
             rows,
             unknowns,
             want,
-        } => dense_of(alloc, nodes, from.bytes(), *rows, *unknowns, want),
+        } => dense_of(alloc, nodes, from, *rows, *unknowns, want),
         Statement::Sparse {
             from,
             unknowns,
             want,
-        } => sparse_of(alloc, nodes, from.bytes(), *unknowns, want),
+        } => sparse_of(alloc, nodes, from, *unknowns, want),
         Statement::Call { graph, parts } => call_of(
             alloc,
             graphs,
             count,
             nodes,
-            graph.bytes(),
+            graph,
             parts.as_slice(),
         ),
         Statement::Memo { graph, parts } => memo_of(
@@ -347,7 +373,7 @@ pub fn kind_of(
             graphs,
             count,
             nodes,
-            graph.bytes(),
+            graph,
             parts.as_slice(),
         ),
         Statement::Map { graph, parts } => map_of(
@@ -355,7 +381,20 @@ pub fn kind_of(
             graphs,
             count,
             nodes,
-            graph.bytes(),
+            graph,
+            parts.as_slice(),
+        ),
+        Statement::Laurent {
+            graph,
+            expansion,
+            parts,
+        } => laurent_of(
+            alloc,
+            graphs,
+            count,
+            nodes,
+            graph,
+            *expansion,
             parts.as_slice(),
         ),
     }

@@ -1,6 +1,6 @@
 //! What is told of a file, and what a file says, is one thing.
 ghost use Rattle.std.specs.Prelude.{◌≡◌, ◌≢◌, ℕ, ◌-◌, List, None, Some, length, slice_get};
-ghost use Rattle.multivar_recon.specs.Covering.{Covers};
+ghost use Rattle.ray_grid.specs.Covering.{Covers};
 ghost use Rattle.ratfun_text.specs.Printed.{AreVariables};
 ghost use Rattle.ray_grid.specs.Grid.{bound_of};
 ghost use Rattle.graph_file.specs.File.{IsFirstBad, IsGoodFile};

@@ -107,6 +107,21 @@ pub enum Statement {
         graph: Name,
         parts: Items<Name>,
     },
+    /// `laurent GRAPH INT INT NUM NUM`, and then nothing or `LIST ..`
+    Laurent {
+        graph: Name,
+        expansion: Expansion,
+        parts: Items<Name>,
+    },
+}
+
+/// The numbers of a `laurent` node: its lowest and highest order, and the degrees of numerator and denominator.
+#[derive(Clone, Copy, PartialEq, Eq, Debug)]
+pub struct Expansion {
+    pub lo: i32,
+    pub hi: i32,
+    pub num: u32,
+    pub den: u32,
 }
 
 /// The unknowns of a system whose values are wanted.

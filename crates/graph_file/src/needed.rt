@@ -65,6 +65,7 @@ pub fn sources_of(alloc: Global, kind: &NodeKind) -> Result<Items<Source>, Alloc
         NodeKind::Call { graph: _, parts } => Items::from_slice(alloc, parts.as_slice()),
         NodeKind::Memo { graph: _, parts } => Items::from_slice(alloc, parts.as_slice()),
         NodeKind::Map { graph: _, parts } => Items::from_slice(alloc, parts.as_slice()),
+        NodeKind::Laurent { parts, .. } => Items::from_slice(alloc, parts.as_slice()),
     }
 }
 

@@ -11,6 +11,9 @@ use ratfun_text::bytes::number;
 use sqlite_items::Items;
 use std::alloc::{AllocError, Global};
 
+/// The greatest size of an order that is kept, which is that of the greatest `i32`.
+const ORDER_SIZE: u128 = 2147483647;
+
 fn are_digits(bytes: &[u8]) -> bool
     ensures { result ≡ list_all is_ascii_digit bytes.now }
 {
@@ -62,6 +65,22 @@ pub fn size(word: &[u8]) -> Option<u32>
 {
     let size = capped(word, u128::from(u32::MAX))?;
     Some(size as u32)
+}
+
+/// The order of an expansion that the word writes: a number, or `-` directly followed by one.
+pub fn order(word: &[u8]) -> Option<i32>
+    ensures { result ≡ spec.order_of word.now }
+{
+    match word {
+        [b'-', digits @ ..] => {
+            let size = capped(digits, ORDER_SIZE)?;
+            Some(-(size as i32))
+        }
+        _ => {
+            let size = capped(word, ORDER_SIZE)?;
+            Some(size as i32)
+        }
+    }
 }
 
 /// The numbers of unknowns that the words write.

@@ -5,9 +5,9 @@ ghost use Rattle.ratfun_text.specs.Bytes as spec_bytes;
 ghost use Rattle.graph_file.specs.Formed.{IsFormed};
 ghost use Rattle.graph_file.specs.Line as spec;
 
-use crate::line::{Degrees, Line, Statement, Want, Which};
+use crate::line::{Degrees, Expansion, Line, Statement, Want, Which};
 use crate::lines::{after_words, cut, is_plain, words};
-use crate::numbers::{are_ascending, entries, entry, size, sizes, wide};
+use crate::numbers::{are_ascending, entries, entry, order, size, sizes, wide};
 use ratfun_text::Name;
 use ratfun_text::bytes::is_name;
 use sqlite_items::Items;
@@ -441,6 +441,35 @@ fn map_node(alloc: Global, words: &[&[u8]]) -> Result<Option<Statement>, AllocEr
     Ok(Some(Statement::Map { graph, parts }))
 }
 
+/// The numbers of an expansion, each from its word.
+fn expansion(lo: &[u8], hi: &[u8], num: &[u8], den: &[u8]) -> Option<Expansion>
+    ensures { result ≡ spec.expansion_from (spec.order_of lo.now) (spec.order_of hi.now) (spec.size_of num.now) (spec.size_of den.now) }
+{
+    let lo = order(lo)?;
+    let hi = order(hi)?;
+    let num = size(num)?;
+    let den = size(den)?;
+    Some(Expansion { lo, hi, num, den })
+}
+
+fn laurent_node(alloc: Global, words: &[&[u8]]) -> Result<Option<Statement>, AllocError>
+    ensures { IfOk result (λ node. node ≡ spec.laurent_node (map (λ word. word.now) words.now)) }
+{
+    let [graph, lo, hi, num, den, lists @ ..] = words else {
+        return Ok(None);
+    };
+    let Some(expansion) = expansion(lo, hi, num, den) else {
+        return Ok(None);
+    };
+    let graph = Name::of(alloc, graph)?;
+    let parts = copies(alloc, lists)?;
+    Ok(Some(Statement::Laurent {
+        graph,
+        expansion,
+        parts,
+    }))
+}
+
 fn statement_of(
     alloc: Global,
     line: &[u8],
@@ -484,6 +513,9 @@ fn statement_of(
     }
     if kind == b"map".as_slice() {
         return map_node(alloc, words);
+    }
+    if kind == b"laurent".as_slice() {
+        return laurent_node(alloc, words);
     }
     Ok(None)
 }

@@ -150,9 +150,7 @@ impl Reader {
         ensures { OnOk result ((earlier : List LineOf) → IsRead earlier self.old → IsRead (line.Graph name ∷ earlier) self.new) }
     {
         self.finish_graph()?;
-        let before = replace(&mut self.graph_names, Table::new(self.alloc));
-        let graph_names = before.with(self.alloc, name.bytes())?;
-        self.graph_names = graph_names;
+        self.graph_names.add(self.alloc, &name)?;
         self.depths.push(1)?;
         self.stood = Last::Graph;
         self.name = Some(name);
@@ -203,9 +201,7 @@ impl Reader {
         self.stood = stood_after(&kind);
         self.unknowns = unknowns_of(&kind);
         self.entries = 0;
-        let before = replace(&mut self.table, Table::new(self.alloc));
-        let table = before.with(self.alloc, name.bytes())?;
-        self.table = table;
+        self.table.add(self.alloc, &name)?;
         self.nodes.push(Node {
             name,
             kind,
@@ -230,7 +226,7 @@ impl Reader {
     }
 
     /// Takes in `output LIST`.
-    fn output(&mut self, list: &[u8])
+    fn output(&mut self, list: &Name)
         requires passes { IsNextTo self.old (line.Output list.now) }
         ensures { (earlier : List LineOf) → IsRead earlier self.old → IsRead (line.Output list.now ∷ earlier) self.new }
     {
@@ -291,7 +287,7 @@ impl Reader {
             Line::Node(name, statement) => self.node(name, &statement, exprs),
             Line::Row(columns) => self.row(columns),
             Line::Output(list) => {
-                self.output(list.bytes());
+                self.output(&list);
                 Ok(())
             }
             Line::Point(entries) => self.point(entries.as_slice()),

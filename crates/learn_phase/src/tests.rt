@@ -62,6 +62,43 @@ fn sparse_rows_over_three_unknowns_are_told_by_the_last(rt: HostRuntime) -> Resu
 }
 
 #[test]
+fn a_graph_with_a_solver_is_called_by_one_with_a_solver(rt: HostRuntime) -> Result<(), Fail> {
+    // the inner system is z1 + 2*z2 = x, the outer one z1 = the inner solution's first entry
+    let text =
+        "flow 1\ngraph inner\ninput x\nnode a eval input = 1 ; 2 ; x\nnode s dense a 1 2 want 1\noutput s\ngraph main\ninput x\nnode a call inner input\nnode b chain a input\nnode s dense b 1 2 want 2 1\noutput s\n";
+    let job = job_of(&rt, text, Need::Learning)?;
+    if job.graphs.len() < 2 {
+        return Err(Fail::from("a file of two graphs"));
+    }
+    let learned = learn(rt.alloc(), &job)?;
+    assert!(rt; is_entry(learned.graph(0), 0, 2, &[2]));
+    let main = learned.graph(1);
+    assert_eq!(rt; main.point, Some(0));
+    assert_eq!(rt; main.output, 4);
+    let sets = main.sets.as_slice();
+    assert_eq!(rt; sets.get(2).map(|set| set.as_slice()), Some([2].as_slice()));
+    Ok(())
+}
+
+#[test]
+fn an_expansion_is_learned_at_points(rt: HostRuntime) -> Result<(), Fail> {
+    // a solver's list is expanded: e*z1 + z2 = 1, so that z1 = -1/e*z2 + 1/e
+    let text =
+        "flow 1\ngraph inner\ninput e\nnode a eval input = e ; 1 ; 1\nnode s dense a 1 2 want 1\noutput s\ngraph main\ninput x\nnode l laurent inner -1 0 1 1\nnode b chain l input\nnode s dense b 1 4 want 1\noutput s\n";
+    let job = job_of(&rt, text, Need::Learning)?;
+    if job.graphs.len() < 2 {
+        return Err(Fail::from("a file of two graphs"));
+    }
+    let learned = learn(rt.alloc(), &job)?;
+    assert!(rt; is_entry(learned.graph(0), 0, 2, &[2]));
+    let main = learned.graph(1);
+    assert_eq!(rt; main.output, 4);
+    let lengths = main.lengths.as_slice();
+    assert_eq!(rt; lengths.first().copied(), Some(4));
+    Ok(())
+}
+
+#[test]
 fn a_point_without_a_value_is_passed_over(rt: HostRuntime) -> Result<(), Fail> {
     let text = with_solver(rt.alloc(), "x - 487926954045984775 ; 1", "dense a 1 1")?;
     let job = job_of(&rt, text.as_str(), Need::Learning)?;

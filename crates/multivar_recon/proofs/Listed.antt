@@ -13,7 +13,7 @@ use Rattle.poly_maps.proofs.MonoLemmas.{is_same-true, is_same-itself, is_same-le
 use Rattle.poly_maps.proofs.Linear.{AreAlike}
 use Rattle.poly_maps.proofs.Moves.{supported-coefficient}
 use Rattle.poly_maps.proofs.Within.{IsBelow-places}
-use Rattle.multivar_recon.specs.Covering.{ListsMonomials}
+use Rattle.ray_grid.specs.Covering.{ListsMonomials}
 use Rattle.multivar_recon.specs.Vectors.{with_numbers}
 
 -- ---- places in an ascending list

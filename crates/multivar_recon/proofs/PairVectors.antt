@@ -19,7 +19,7 @@ use Rattle.poly_maps.proofs.Moves.{Supported-coefficients}
 use Rattle.poly_maps.proofs.Pinned.{first-coefficient, leading_some, leading_greatest}
 use Rattle.poly_maps.proofs.Terms.{coefficient-residue}
 use Rattle.poly_maps.proofs.Within.{IsBelow-places, IsBelow-from_places}
-use Rattle.multivar_recon.specs.Covering.{Covers, ListsMonomials}
+use Rattle.ray_grid.specs.Covering.{Covers, ListsMonomials}
 use Rattle.multivar_recon.specs.Least.{Vanishes, VanishesFrom, leading_coefficient, IsAgreeing, AreWithin, IsLeastPair}
 use Rattle.multivar_recon.specs.Vectors.{num_of, den_of, AgreesTo, EndsAt, IsLeastVector, IsForced, NoneAgrees}
 use Rattle.multivar_recon.proofs.Sums.{value-zeros}
@@ -45,7 +45,7 @@ Agrees-from m (x ∷ xs) (v ∷ vs) f same each = (each 0 (omega arith), Agrees-
 -- ---- the leading term
 
 -- the greatest monomial with a coefficient leads
-leads : (p : List (List ℕ × ℕ)) (e : List ℕ) → IsNormal p → coefficient e p ≢ 0 → ((f : List ℕ) → coefficient f p ≢ 0 → mono_cmp e f ≢ Less) → leading p ≡ Some e
+pub leads : (p : List (List ℕ × ℕ)) (e : List ℕ) → IsNormal p → coefficient e p ≢ 0 → ((f : List ℕ) → coefficient f p ≢ 0 → mono_cmp e f ≢ Less) → leading p ≡ Some e
 leads [] e normal some greatest = absurd (some refl)
 leads (t ∷ p) e normal some greatest = elim (leading_greatest (t ∷ p) t.0 e normal refl some) [
   | inl same ↦ ap Some (sym same)

@@ -19,7 +19,7 @@ use Rattle.poly_maps.proofs.Moves.{coefficient-times, value_at-times, Supported-
 use Rattle.poly_maps.proofs.Pinned.{same_map, leading_some, leading_greatest, value-product_of}
 use Rattle.poly_maps.proofs.Terms.{coefficient-append, value_at-append, coefficient-residue, Supported-append}
 use Rattle.poly_maps.proofs.Within.{IsBelow-places, IsBelow-from_places}
-use Rattle.multivar_recon.specs.Covering.{Covers}
+use Rattle.ray_grid.specs.Covering.{Covers}
 use Rattle.multivar_recon.specs.Least.{Vanishes, VanishesFrom, leading_coefficient, IsAgreeing, AreWithin, IsLeastPair}
 use Rattle.multivar_recon.proofs.Sums.{moved_over, moved_back}
 use Rattle.multivar_recon.proofs.PairVectors.{Agrees-at, Agrees-from, leading_coefficient-at}
@@ -53,7 +53,7 @@ module _ (m : ℕ) (p q : List (List ℕ × ℕ)) where
   Supported-less_by L p_in q_in = Supported-append L p (times (m - 1) q) p_in (Supported-times L (m - 1) q q_in)
 
   -- where the difference vanishes on a forcing list, the coefficients are congruent
-  forced_same : (b : Bound) (xs : List (List ℕ)) → 1 < m → IsForcing m b xs → Supported HasEight p → IsWithin b p → Supported HasEight q → IsWithin b q →
+  pub forced_same : (b : Bound) (xs : List (List ℕ)) → 1 < m → IsForcing m b xs → Supported HasEight p → IsWithin b p → Supported HasEight q → IsWithin b q →
       ((i : ℕ) → i < length xs → value_at p (get_or xs i []) % m ≡ value_at q (get_or xs i []) % m) → (e : List ℕ) → coefficient e p % m ≡ coefficient e q % m
   forced_same b xs large forcing p_eight p_within q_eight q_within same e =
       same_residue m (coefficient e p) (coefficient e q) large
@@ -70,14 +70,14 @@ same_polynomial m p q large p_poly p_low q_poly q_low same =
     sym (mod-eq_of_lt (coefficient-residue m e p (omega arith) p_poly.0 p_low)) ∙ same e ∙
     mod-eq_of_lt (coefficient-residue m e q (omega arith) q_poly.0 q_low))
 
-leading_there : (p : List (List ℕ × ℕ)) → p ≢ [] → (e : List ℕ) × (leading p ≡ Some e)
+pub leading_there : (p : List (List ℕ × ℕ)) → p ≢ [] → (e : List ℕ) × (leading p ≡ Some e)
 leading_there [] some = absurd (some refl)
 leading_there (t ∷ p) some = (t.0, refl)
 
 pub agreeing_within : (m : ℕ) (b : Bounds) (xs : List (List ℕ)) (vs : List ℕ) (f : Pair) → IsAgreeing m b xs vs f → AreWithin b f
 agreeing_within m b xs vs f is = record { num_eight = is.pair.num.1; den_eight = is.pair.den.1; num = is.within.num; den = is.within.den }
 
-Agrees-length : (m : ℕ) (xs : List (List ℕ)) (vs : List ℕ) (f : Pair) → Agrees m xs vs f → length vs ≡ length xs
+pub Agrees-length : (m : ℕ) (xs : List (List ℕ)) (vs : List ℕ) (f : Pair) → Agrees m xs vs f → length vs ≡ length xs
 Agrees-length m [] [] f agrees = refl
 Agrees-length m [] (v ∷ vs) f agrees = absurd agrees
 Agrees-length m (x ∷ xs) [] f agrees = absurd agrees

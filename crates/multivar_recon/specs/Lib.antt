@@ -1,3 +1,7 @@
 pub mod Least
-pub mod Covering
 pub mod Vectors
+pub mod Rays
+pub mod Assembly
+pub mod Frame
+pub mod Tables
+pub mod Parts

@@ -9,7 +9,7 @@ ghost use Rattle.poly_maps.specs.Forcing.{IsForcing};
 ghost use Rattle.poly_maps.specs.Mono.{mono_cmp, HasEight};
 ghost use Rattle.poly_maps.specs.Pair.{Agrees, CrossEqual};
 ghost use Rattle.poly_maps.specs.Polynomial.{leading};
-ghost use Rattle.multivar_recon.specs.Covering.{Covers, ListsMonomials, monomial_count};
+ghost use Rattle.ray_grid.specs.Covering.{Covers, ListsMonomials, monomial_count};
 ghost use Rattle.multivar_recon.specs.Least.{AreWithin, IsAgreeing, IsLeastPair};
 
 /// Where the points are forcing for the numerator's bound, there is one least pair at most.
@@ -33,10 +33,4 @@ pub fn agreeing_pairs_are_cross_equal()
     // The terms of the parts may stand in any order and repeat a monomial.
     ensures terms { (m : ℕ) (grid : Bound) (b : Bounds) (xs : List (List ℕ)) (vs : List ℕ) (f g : Pair) → 1 < m → Covers grid b →
         IsForcing m grid xs → AreWithin b f → AreWithin b g → Agrees m xs vs f → Agrees m xs vs g → CrossEqual m f g }
-{}
-
-/// The ascending list of the monomials within a bound has as many as are counted.
-pub fn count_is_length()
-    ensures { (b : Bound) (variables : ℕ) (es : List (List ℕ)) → HasEight b.each → variables ≤ 8 → ListsMonomials b variables es →
-        length es ≡ monomial_count b variables }
 {}

@@ -9,7 +9,7 @@ ghost use Rattle.poly_maps.specs.Forcing.{IsForcing};
 ghost use Rattle.poly_maps.specs.Polynomial.{coefficient, AreResidues, IsPolynomial};
 ghost use Rattle.ray_grid.specs.Attempt.{attempt_points};
 ghost use Rattle.ray_grid.specs.Grid.{IsGrid, bound_of, point_count};
-ghost use Rattle.multivar_recon.specs.Covering.{Covers, HasFew, exponent_count};
+ghost use Rattle.ray_grid.specs.Covering.{Covers, HasFew, exponent_count};
 ghost use Rattle.multivar_recon.specs.Least.{IsAgreeing, IsLeastPair, IsPairModulo};
 ghost use Rattle.multivar_recon.specs.Vectors.{with_numbers, num_of, den_of};
 
@@ -19,39 +19,6 @@ use poly_maps::{Bounds, Mono, MonomialPlan, Pair, Point, Poly, monomials};
 use prime_field::Modulus;
 use ray_grid::{Grid, attempt};
 use std::alloc::Global;
-
-/// The most monomials that numerator and denominator may have together.
-const MOST_MONOMIALS: u32 = 1024;
-
-/// Whether numerator and denominator have at most 1024 monomials together, as [`fit`] asks. It counts no further.
-pub fn has_few(bounds: &Bounds, variables: u32) -> bool
-    requires { variables ≤ 8 }
-    ensures { IsTrue result ↔ HasFew bounds.now variables }
-{
-    let used = variables as usize;
-    let most = MOST_MONOMIALS + 1;
-    let nums = count_exponents(&bounds.num.each[..used], bounds.num.total, most);
-    let dens = count_exponents(&bounds.den.each[..used], bounds.den.total, most);
-    nums + dens <= MOST_MONOMIALS
-}
-
-/// How many lists of exponents, each at most its entry, add up to `left` at most; `most` where they are more.
-fn count_exponents(entries: &[u32], left: u32, most: u32) -> u32
-    requires { most ≤ 1025 }
-    ensures { result ≡ min most (exponent_count entries.now left) }
-{
-    let [entry, others @ ..] = entries else {
-        return most.min(1);
-    };
-    let mut count = 0;
-    for k in 0..left.min(*entry) as u64 + 1 {
-        count += count_exponents(others, left - k as u32, most - count);
-        if count == most {
-            return count;
-        }
-    }
-    count
-}
 
 /// The polynomial with these coefficients at these monomials.
 fn gather(alloc: Global, m: Modulus, monos: &[Mono], numbers: &[u64]) -> Result<Poly, NoMemory>

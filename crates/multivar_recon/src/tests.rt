@@ -7,17 +7,17 @@ ghost use Rattle.poly_maps.specs.Polynomial.{AreResidues};
 use super::*;
 use poly_maps::{Bound, Bounds, Mono, Point, Poly};
 use prime_field::Modulus;
-use ray_grid::{Grid, attempt};
+use ray_grid::{Grid, attempt, has_few};
 use std::alloc::Global;
 use std::test::Fail;
 
 /// `x^i * y^j * z^k`
-fn power(i: u16, j: u16, k: u16) -> Mono {
+pub(crate) fn power(i: u16, j: u16, k: u16) -> Mono {
     Mono::new([i, j, k, 0, 0, 0, 0, 0])
 }
 
 /// The samples of the quotient of two polynomials; 0 where the second one's value is.
-fn samples(
+pub(crate) fn samples(
     alloc: Global,
     m: Modulus,
     points: &[Point],
@@ -189,65 +189,5 @@ fn a_constant_at_one_point(rt: HostRuntime) -> Result<(), Fail> {
     );
     assert_eq!(rt; pair.num.terms(), [(power(0, 0, 0), 5)].as_slice());
     assert_eq!(rt; pair.den.terms(), [(power(0, 0, 0), 1)].as_slice());
-    Ok(())
-}
-
-#[test]
-fn as_many_monomials_as_may_be(rt: HostRuntime) -> Result<(), Fail> {
-    let one = Bound {
-        total: 0,
-        each: [0; 8],
-    };
-    // up to degree 5 in 7 variables there are 792 monomials, in 8 variables 1287
-    let wide = Bound {
-        total: 5,
-        each: [256; 8],
-    };
-    assert!(rt;
-        has_few(
-            &Bounds {
-                num: wide,
-                den: one
-            },
-            7
-        )
-    );
-    assert!(rt;
-        !has_few(
-            &Bounds {
-                num: wide,
-                den: one
-            },
-            8
-        )
-    );
-    // 1023 and 1 are few, 1024 and 1 too many
-    let row = |total: u32| Bound {
-        total,
-        each: [1023, 0, 0, 0, 0, 0, 0, 0],
-    };
-    assert!(rt;
-        has_few(
-            &Bounds {
-                num: row(1022),
-                den: one
-            },
-            1
-        )
-    );
-    assert!(rt;
-        !has_few(
-            &Bounds {
-                num: one,
-                den: row(1023)
-            },
-            1
-        )
-    );
-    let all = Bound {
-        total: 256,
-        each: [256; 8],
-    };
-    assert!(rt; !has_few(&Bounds { num: all, den: all }, 8));
     Ok(())
 }

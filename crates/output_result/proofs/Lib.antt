@@ -2,4 +2,4 @@ pub mod Named
 pub mod Quotients
 pub mod Single
 pub mod Shown
-pub mod Told
+pub mod Lines

@@ -1,5 +1,5 @@
 -- What is lifted is in the grid's variables, and small.
-use Rattle.std.proofs.Common.{◌≡◌, ◌≢◌, ℕ, ◌*◌, ◌^◌, ◌<◌, ◌≤◌, ◌⊎◌, inl, inr, Some, List, [], ◌∷◌, length, slice_index, None, sym, subst, arith, lit≤}
+use Rattle.std.proofs.Common.{◌≡◌, ◌≢◌, ℕ, ◌*◌, ◌^◌, ◌<◌, ◌≤◌, ◌⊎◌, inl, inr, refl, Some, List, [], ◌∷◌, length, slice_index, None, sym, subst, ap, ◌∙◌, arith, lit≤}
 use Rattle.std.proofs.Math.Nat.{mul-le-mul}
 use Rattle.std.proofs.lemmas.Bool.{cases_eq}
 use Rattle.std.proofs.lemmas.Int.{fits_signed_from_abs}
@@ -16,7 +16,7 @@ use Rattle.poly_maps.proofs.Within.{IsBelow-places}
 use Rattle.ratfun_text.specs.Printed.{AreSized, IsIn}
 use Rattle.ray_grid.specs.Grid.{IsGrid, bound_of}
 use Rattle.ray_grid.specs.declared.grid.Grid.{Grid}
-use Rattle.multivar_recon.specs.Covering.{Covers}
+use Rattle.ray_grid.specs.Covering.{Covers}
 use Rattle.rational_lift.specs.Joined.{both}
 use Rattle.rational_lift.specs.Parts.{by_modulus}
 use Rattle.rational_lift.specs.Lifting.{at_part, AreInside, IsRecovered, Lift, Lifted, Unlike, NoRational}
@@ -24,8 +24,12 @@ use Rattle.rational_lift.specs.declared.coeff.Coeff.{Coeff}
 use Rattle.rational_lift.specs.declared.coeff.Part.{Part}
 use Rattle.rational_lift.specs.declared.coeff.Part.TheVariants.{Numerator, Denominator}
 use Rattle.rational_lift.proofs.Lifts.{recovered_by}
+use Rattle.multivar_recon.specs.declared.by_rays.Method.{Method}
+use Rattle.multivar_recon.specs.declared.by_rays.Method.TheVariants.{Rays, Fit}
+use Rattle.output_result.specs.Methods.{HasRegularRays, IsMethod, IsReport}
 use Rattle.output_result.specs.Outputs.{Output, IsLeastAt}
 use Rattle.output_result.specs.Printing.{IsMonoIn, IsShown}
+use Rattle.output_result.specs.Texts.{Report, methods_text, report_text}
 use Rattle.output_result.specs.Results.{Result as Says, NoPair, Lifts, AreLifted, IsLift, OutputResult}
 use Rattle.output_result.proofs.Quotients.{lift_within}
 
@@ -141,3 +145,38 @@ output_shown c g o names (Lifts lift) grid covers num den narrow count is = lift
 pub both_least : (o : Output) (f g : Pair) → IsLeastAt o First f → IsLeastAt o Second g → (m : Modulus) → IsLeastAt o m (by_modulus f g m)
 both_least o f g first second First = first
 both_least o f g first second Second = second
+
+-- what two least pairs are lifted to is the result
+pub result_lifted : (c : Coeff) (o : Output) (result : Says) (pairs : Modulus → Pair) → ((m : Modulus) → IsLeastAt o m (pairs m)) → AreLifted c pairs result → OutputResult c o result
+result_lifted c o (NoPair m) pairs least lifted = absurd lifted
+result_lifted c o (Lifts lift) pairs least lifted = record { pairs = pairs; least = least; lifts = lifted }
+
+-- a method that is told rightly
+pub method_is : (regular : Type 0) (method : Method) → (method ≡ Rays → regular) → (method ≡ Fit → regular → ⊥) → IsMethod regular method
+method_is regular Rays rays fit = rays refl
+method_is regular Fit rays fit = fit refl
+
+-- the report of two least pairs
+pub report_told : (c : Coeff) (grid : Grid) (attempts : Modulus → ℕ) (o : Output) (result : Says) (pairs : Modulus → Pair) (first second : Method) → AreLifted c pairs result
+    → IsMethod (HasRegularRays grid (attempts First) o First) first → IsMethod (HasRegularRays grid (attempts Second) o Second) second → IsReport grid attempts o result (Some (by_modulus first second))
+report_told c grid attempts o (NoPair m) pairs first second lifted one other = absurd lifted
+report_told c grid attempts o (Lifts lift) pairs first second lifted one other = each
+  where
+    each : (m : Modulus) → IsMethod (HasRegularRays grid (attempts m) o m) (by_modulus first second m)
+    each First = one
+    each Second = other
+
+-- there is one report
+method_once : (regular : Type 0) (a b : Method) → IsMethod regular a → IsMethod regular b → a ≡ b
+method_once regular Rays Rays first second = refl
+method_once regular Rays Fit first second = absurd (second first)
+method_once regular Fit Rays first second = absurd (first second)
+method_once regular Fit Fit first second = refl
+
+pub report_once : (grid : Grid) (attempts : Modulus → ℕ) (o : Output) (result : Says) (r s : Report) → IsReport grid attempts o result r → IsReport grid attempts o result s → report_text r result ≡ report_text s result
+report_once grid attempts o (NoPair m) r s first second = ap (λ (x : Report). report_text x (NoPair m)) (first ∙ sym second)
+report_once grid attempts o (Lifts lift) None s first second = absurd first
+report_once grid attempts o (Lifts lift) (Some a) None first second = absurd second
+report_once grid attempts o (Lifts lift) (Some a) (Some b) first second =
+    let each : (m : Modulus) → a m ≡ b m = λ m. method_once (HasRegularRays grid (attempts m) o m) (a m) (b m) (first m) (second m) in
+    ap (λ (x : Modulus → Method). methods_text x) (λ i m. each m i)

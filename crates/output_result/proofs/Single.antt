@@ -15,7 +15,7 @@ use Rattle.poly_maps.specs.declared.bound.Bound.{Bound}
 use Rattle.poly_maps.specs.declared.bound.Bounds.{Bounds}
 use Rattle.poly_maps.specs.declared.pair.Pair.{Pair}
 use Rattle.poly_maps.proofs.Within.{IsBelow-places, IsBelow-from_places}
-use Rattle.multivar_recon.specs.Covering.{Covers}
+use Rattle.ray_grid.specs.Covering.{Covers}
 use Rattle.multivar_recon.proofs.Unique.{agreeing_within, agreeing_cross, one_least}
 use Rattle.rational_lift.specs.Joined.{both}
 use Rattle.rational_lift.specs.Lifting.{Lift, Lifted, LiftsTo}

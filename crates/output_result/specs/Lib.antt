@@ -3,3 +3,4 @@ pub mod Outputs
 pub mod Printing
 pub mod Results
 pub mod Texts
+pub mod Methods

@@ -10,7 +10,7 @@ use Rattle.poly_maps.specs.Reduced.{residue_pair, own_values, HasUnits, HasWithi
 use Rattle.poly_maps.specs.declared.bound.Bound.{Bound}
 use Rattle.poly_maps.specs.declared.bound.Bounds.{Bounds}
 use Rattle.poly_maps.specs.declared.pair.Pair.{Pair}
-use Rattle.multivar_recon.specs.Covering.{Covers}
+use Rattle.ray_grid.specs.Covering.{Covers}
 use Rattle.multivar_recon.specs.Least.{IsAgreeing, IsLeastPair}
 use Rattle.rational_lift.specs.Lifting.{HasInside}
 use Rattle.rational_lift.specs.declared.coeff.Coeff.{Coeff}

@@ -1,10 +1,12 @@
 -- What a line of a text prints.
-use Rattle.std.specs.Prelude.{◌≡◌, ℕ, ◌^◌, ◌<◌, List, [], ◌∷◌, ◌++◌, Some, slice_get, slice_index}
+use Rattle.std.specs.Prelude.{◌≡◌, ℕ, ◌^◌, ◌<◌, List, [], ◌∷◌, ◌++◌, ◌⊎◌, Some, slice_get, slice_index}
+use Rattle.prime_field.specs.declared.Modulus.{Modulus}
 use Rattle.poly_maps.specs.Quotient.{RationalPair, IsQuotientMap}
+use Rattle.multivar_recon.specs.declared.by_rays.Method.{Method}
 use Rattle.ratfun_text.specs.Printed.{AreIn, HasSizes, IsIn}
 use Rattle.rational_lift.specs.Lifting.{Lifted, Unlike, NoRational}
 use Rattle.output_result.specs.Results.{Result, NoPair, Lifts}
-use Rattle.output_result.specs.Texts.{lines, result_line}
+use Rattle.output_result.specs.Texts.{lines, methods_text, result_line}
 
 -- a quotient in these names of its variables, its numbers as small as a quotient's are kept: one that its text tells
 pub record IsPrintable (names : List (List ℕ)) (F : RationalPair) : Type 0 where
@@ -32,9 +34,9 @@ AreShown names (result ∷ results) = IsShown names result × AreShown names res
 abbrev pub function_line : List (List ℕ) → ℕ → RationalPair → List ℕ
 function_line names number F = result_line names number (Lifts (Lifted F))
 
--- what may stand behind a function on its line: nothing
+-- what may stand behind a function on its line: nothing, or how its residues were found at each modulus
 abbrev pub IsTail : List ℕ → Type 0
-IsTail tail = tail ≡ []
+IsTail tail = (tail ≡ []) ⊎ ((methods : Modulus → Method) × (tail ≡ methods_text methods))
 
 -- the line at `place` of the text, counted from 0, prints the function as that of output `number`
 pub record PrintsFunction (names : List (List ℕ)) (out : List ℕ) (place number : ℕ) (F : RationalPair) : Type 0 where

@@ -12,16 +12,17 @@ ghost use Rattle.poly_maps.specs.declared.bound.Bounds.{Bounds};
 ghost use Rattle.poly_maps.specs.declared.pair.Pair.{Pair};
 ghost use Rattle.ray_grid.specs.Grid.{IsGrid, bound_of};
 ghost use Rattle.ray_grid.specs.declared.grid.Grid.{Grid};
-ghost use Rattle.multivar_recon.specs.Covering.{Covers};
+ghost use Rattle.ray_grid.specs.Covering.{Covers};
 ghost use Rattle.ratfun_text.specs.Printed.{AreVariables};
 ghost use Rattle.rational_lift.specs.Joined.{both};
 ghost use Rattle.rational_lift.specs.Lifting.{Lifted};
 ghost use Rattle.rational_lift.specs.declared.coeff.Coeff.{Coeff};
 ghost use Rattle.output_result.specs.Findings.{output_of};
+ghost use Rattle.output_result.specs.Methods.{IsReport};
 ghost use Rattle.output_result.specs.Outputs.{Output, AgreesAt, IsPinned, IsQuotient, ReducesWellAt};
 ghost use Rattle.output_result.specs.Printing.{AreShown, IsShown, PrintsFunction};
 ghost use Rattle.output_result.specs.Results.{Result, Lifts, OutputResult};
-ghost use Rattle.output_result.specs.Texts.{results_text};
+ghost use Rattle.output_result.specs.Texts.{Report, report_text, results_text};
 
 use ratfun_text::one_quotient;
 use ray_grid::attempts_are_forcing;
@@ -62,16 +63,16 @@ pub fn results_are_shown()
 
 /// A line that prints a function tells of a result that is this function.
 pub fn printed_is_found()
-    ensures { (names : List (List ℕ)) (results : List Result) (k : ℕ) (F : RationalPair) → AreVariables names → length results < 2 ^ 32 → AreShown names results →
-        PrintsFunction names (results_text names results) k (k + 1) F → slice_get results k ≡ Some (Lifts (Lifted F)) }
+    ensures { (names : List (List ℕ)) (reports : ℕ → Report) (results : List Result) (k : ℕ) (F : RationalPair) → AreVariables names → length results < 2 ^ 32 → AreShown names results →
+        PrintsFunction names (results_text names reports results) k (k + 1) F → slice_get results k ≡ Some (Lifts (Lifted F)) }
 {
     one_quotient();
 }
 
 /// What is found is printed on the line at its place.
 pub fn found_is_printed()
-    ensures { (names : List (List ℕ)) (results : List Result) (k : ℕ) (F : RationalPair) → AreVariables names → length results < 2 ^ 32 → AreShown names results →
-        slice_get results k ≡ Some (Lifts (Lifted F)) → PrintsFunction names (results_text names results) k (k + 1) F }
+    ensures { (names : List (List ℕ)) (reports : ℕ → Report) (results : List Result) (k : ℕ) (F : RationalPair) → AreVariables names → length results < 2 ^ 32 → AreShown names results →
+        slice_get results k ≡ Some (Lifts (Lifted F)) → PrintsFunction names (results_text names reports results) k (k + 1) F }
 {}
 
 /// The points of any two attempts over a grid pin an output whose bounds the grid covers.
@@ -81,3 +82,9 @@ pub fn attempts_pin()
 {
     attempts_are_forcing();
 }
+
+/// What is told of how the least pairs of an output were found is one thing.
+pub fn one_report()
+    ensures { (grid : Grid) (attempts : Modulus → ℕ) (o : Output) (result : Result) (r s : Report) → IsReport grid attempts o result r → IsReport grid attempts o result s →
+        report_text r result ≡ report_text s result }
+{}

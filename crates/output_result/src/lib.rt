@@ -5,10 +5,10 @@ mod finding;
 mod laws;
 mod print;
 
-pub use finding::{Finding, Sampled, find};
+pub use finding::{Finding, Methods, Sampled, Told, find};
 pub use laws::{
-    agreeing_are_cross_equal, attempts_pin, found_is_printed, found_is_quotient, one_result,
-    printed_is_found, quotient_is_found, results_are_shown,
+    agreeing_are_cross_equal, attempts_pin, found_is_printed, found_is_quotient, one_report,
+    one_result, printed_is_found, quotient_is_found, results_are_shown,
 };
 pub use print::push_line;
 

@@ -3,11 +3,13 @@
 ghost use Rattle.std.specs.Prelude.{◌≡◌, List, ◌++◌, ◌∷◌, [], OnOk, decimal};
 ghost use Rattle.ratfun_text.specs.Printed.{AreVariables};
 ghost use Rattle.output_result.specs.Findings.{result_of};
+ghost use Rattle.output_result.specs.Methods.{report_of};
 ghost use Rattle.output_result.specs.Printing.{IsShown};
-ghost use Rattle.output_result.specs.Texts.{part_text, result_line, result_text};
+ghost use Rattle.output_result.specs.Texts.{method_text, part_text, report_text, result_line, result_text};
 
-use crate::{Finding, NoMemory};
+use crate::{Finding, Methods, NoMemory};
 use itoa::Buffer;
+use multivar_recon::Method;
 use ratfun_text::{Name, print_mono, print_quotient};
 use rational_lift::Part;
 use std::alloc::Global;
@@ -69,22 +71,55 @@ fn push_finding(
     }
 }
 
-/// Puts the line of output `number` behind the text: `f`, the number, a blank, what was found and a line feed.
+/// The word for how a least pair was found.
+fn push_method(text: &mut Vec<u8>, method: Method) -> Result<(), NoMemory>
+    ensures { OnOk result (text.new.items ≡ text.old.items ++ method_text method) }
+{
+    match method {
+        Method::Rays => text.extend_from_slice(b"rays"),
+        Method::Fit => text.extend_from_slice(b"fit"),
+    }
+}
+
+/// Puts how the least pair was found at each modulus behind the text, where that is to be told and there are pairs.
+fn push_report(
+    text: &mut Vec<u8>,
+    finding: &Finding,
+    report: Option<Methods>,
+) -> Result<(), NoMemory>
+    ensures { OnOk result (text.new.items ≡ text.old.items ++ report_text (report_of report) (result_of finding.now)) }
+{
+    let Some(methods) = report else {
+        return Ok(());
+    };
+    if let Finding::NoPair(_) = finding {
+        return Ok(());
+    }
+    text.extend_from_slice(b" # ")?;
+    push_method(text, methods.first)?;
+    text.push(b' ')?;
+    push_method(text, methods.second)
+}
+
+/// Puts the line of output `number` behind the text: `f`, the number, a blank, what was found, how it was found if that is
+/// to be told, and a line feed.
 pub fn push_line(
     alloc: Global,
     text: &mut Vec<u8>,
     number: u32,
     finding: &Finding,
+    report: Option<Methods>,
     names: &[Name],
 ) -> Result<(), NoMemory>
     requires names { AreVariables names.now }
     requires shown { IsShown names.now (result_of finding.now) }
-    ensures { OnOk result (text.new.items ≡ text.old.items ++ (result_line names.now number (result_of finding.now) ++ 10 ∷ [])) }
+    ensures { OnOk result (text.new.items ≡ text.old.items ++ ((result_line names.now number (result_of finding.now) ++ report_text (report_of report) (result_of finding.now)) ++ 10 ∷ [])) }
 {
     text.push(b'f')?;
     push_number(text, u128::from(number))?;
     text.push(b' ')?;
     push_finding(alloc, text, finding, names)?;
+    push_report(text, finding, report)?;
     text.push(b'\n')?;
     Ok(())
 }

@@ -5,17 +5,16 @@ ghost use Rattle.prime_field.specs.Modulus.{value_of};
 ghost use Rattle.prime_field.specs.declared.Modulus.TheVariants.{First, Second};
 ghost use Rattle.poly_maps.specs.Polynomial.{AreResidues};
 ghost use Rattle.ray_grid.specs.Grid.{IsGrid, bound_of, point_count};
-ghost use Rattle.multivar_recon.specs.Covering.{Covers};
+ghost use Rattle.ray_grid.specs.Covering.{Covers};
 ghost use Rattle.ratfun_text.specs.Printed.{AreVariables};
 ghost use Rattle.rational_lift.specs.Joined.{both};
 
 use super::*;
-use multivar_recon::has_few;
 use poly_maps::{Bound, Bounds, Mono, Point, Poly};
 use prime_field::Modulus;
 use ratfun_text::Name;
 use rational_lift::Coeff;
-use ray_grid::{Grid, attempt};
+use ray_grid::{Grid, attempt, has_few};
 use std::alloc::Global;
 use std::test::Fail;
 
@@ -60,15 +59,20 @@ fn samples(
     Ok(values)
 }
 
-/// The samples of `(a*x^2 + b*y^2 + c*x + d)/(e*x + f*y + g)` at the points of the grid's attempt `r`. A coefficient is
-/// a small number, with its sign.
+/// `(a*x^2 + b*y^2 + c*x + d)/(e*x + f*y + g)`. A coefficient is a small number, with its sign.
+#[derive(Clone, Copy)]
+struct Known {
+    num: [i64; 4],
+    den: [i64; 3],
+}
+
+/// The samples of the function at the points of the grid's attempt `r`.
 fn values_of(
     alloc: Global,
     m: Modulus,
     grid: &Grid,
     r: u32,
-    num: [i64; 4],
-    den: [i64; 3],
+    function: &Known,
 ) -> Result<Vec<u64>, NoMemory>
     requires grid { IsGrid grid.now }
     requires known { r < 8 }
@@ -76,28 +80,30 @@ fn values_of(
     ensures count { IfOk result (λ values. vec_len values ≡ point_count grid.now) }
     ensures residues { IfOk result (λ values. All (λ v. v < value_of m) values.items) }
 {
+    let [a, b, c, d] = function.num;
     let mut above = Poly::zero(alloc);
-    above.add_term(m, power(2, 0), m.reduce_i128(num[0] as i128))?;
-    above.add_term(m, power(0, 2), m.reduce_i128(num[1] as i128))?;
-    above.add_term(m, power(1, 0), m.reduce_i128(num[2] as i128))?;
-    above.add_term(m, power(0, 0), m.reduce_i128(num[3] as i128))?;
+    above.add_term(m, power(2, 0), m.reduce_i128(a as i128))?;
+    above.add_term(m, power(0, 2), m.reduce_i128(b as i128))?;
+    above.add_term(m, power(1, 0), m.reduce_i128(c as i128))?;
+    above.add_term(m, power(0, 0), m.reduce_i128(d as i128))?;
+    let [e, f, g] = function.den;
     let mut below = Poly::zero(alloc);
-    below.add_term(m, power(1, 0), m.reduce_i128(den[0] as i128))?;
-    below.add_term(m, power(0, 1), m.reduce_i128(den[1] as i128))?;
-    below.add_term(m, power(0, 0), m.reduce_i128(den[2] as i128))?;
+    below.add_term(m, power(1, 0), m.reduce_i128(e as i128))?;
+    below.add_term(m, power(0, 1), m.reduce_i128(f as i128))?;
+    below.add_term(m, power(0, 0), m.reduce_i128(g as i128))?;
     let points = attempt(alloc, grid, r)?;
     samples(alloc, m, &points, &above, &below)
 }
 
-/// The line of output 1 that is found from such samples, those at the first modulus at one attempt's points and those at
-/// the second modulus at another's.
+/// The line of output 1 that is found from such samples and tells how, those at the first modulus at the points of attempt 0
+/// and those at the second modulus at another's.
 fn line_of(
     alloc: Global,
     bounds: &Bounds,
     grid: &Grid,
     coeff: &Coeff,
-    num: [i64; 4],
-    den: [i64; 3],
+    function: &Known,
+    other: u32,
 ) -> Result<Vec<u8>, Fail>
     requires grid { IsGrid grid.now }
     requires two { grid.now.variables ≡ 2 }
@@ -106,24 +112,25 @@ fn line_of(
     requires some_num { 1 ≤ coeff.now.num }
     requires some_den { 1 ≤ coeff.now.den }
     requires narrow { 2 * (coeff.now.num * coeff.now.den) < both }
+    requires known { other < 8 }
 {
     if !has_few(bounds, grid.variables) {
         return Err(Fail::from("too many monomials"));
     }
-    let values1 = values_of(alloc, Modulus::First, grid, 0, num, den)?;
-    let values2 = values_of(alloc, Modulus::Second, grid, 1, num, den)?;
+    let values1 = values_of(alloc, Modulus::First, grid, 0, function)?;
+    let values2 = values_of(alloc, Modulus::Second, grid, other, function)?;
     let first = Sampled {
         attempt: 0,
         values: &values1,
     };
     let second = Sampled {
-        attempt: 1,
+        attempt: other,
         values: &values2,
     };
-    let finding = find(alloc, bounds, grid, coeff, first, second)?;
+    let told = find(alloc, bounds, grid, coeff, first, second)?;
     let names = x_and_y(alloc)?;
     let mut text = Vec::new(alloc);
-    push_line(alloc, &mut text, 1, &finding, &names)?;
+    push_line(alloc, &mut text, 1, &told.finding, told.methods, &names)?;
     Ok(text)
 }
 
@@ -154,20 +161,27 @@ fn a_common_factor_is_not_kept(rt: HostRuntime) -> Result<(), Fail> {
         den: 1_000_000,
     };
     // (x^2 - y^2)/(x - y)
-    let text = line_of(
-        rt.alloc(),
-        &bounds,
-        &grid,
-        &coeff,
-        [1, -1, 0, 0],
-        [1, -1, 0],
-    )?;
-    assert_eq!(rt; text.as_slice(), b"f1 = x + y\n".as_slice());
+    let square = Known {
+        num: [1, -1, 0, 0],
+        den: [1, -1, 0],
+    };
+    let text = line_of(rt.alloc(), &bounds, &grid, &coeff, &square, 1)?;
+    assert_eq!(rt; text.as_slice(), b"f1 = x + y # rays rays\n".as_slice());
+    // (x^2 + 1)/(x + 2*y + 3)
+    let quotient = Known {
+        num: [1, 0, 0, 1],
+        den: [1, 2, 3],
+    };
+    let text = line_of(rt.alloc(), &bounds, &grid, &coeff, &quotient, 1)?;
+    assert_eq!(rt;
+        text.as_slice(),
+        b"f1 = (x^2 + 1)/(x + 2*y + 3) # rays rays\n".as_slice()
+    );
     Ok(())
 }
 
 #[test]
-fn a_pole_is_no_polynomial(rt: HostRuntime) -> Result<(), Fail> {
+fn constants_and_poles(rt: HostRuntime) -> Result<(), Fail> {
     let bounds = Bounds {
         num: bound(2),
         den: bound(0),
@@ -178,14 +192,30 @@ fn a_pole_is_no_polynomial(rt: HostRuntime) -> Result<(), Fail> {
         each: [2, 2, 0, 0, 0, 0, 0, 0],
     };
     let coeff = Coeff { num: 10, den: 10 };
-    // 1/(x - y)
-    let text = line_of(rt.alloc(), &bounds, &grid, &coeff, [0, 0, 0, 1], [1, -1, 0])?;
+    let zero = Known {
+        num: [0, 0, 0, 0],
+        den: [0, 0, 1],
+    };
+    let text = line_of(rt.alloc(), &bounds, &grid, &coeff, &zero, 1)?;
+    assert_eq!(rt; text.as_slice(), b"f1 = 0 # rays rays\n".as_slice());
+    let constant = Known {
+        num: [0, 0, 0, -3],
+        den: [0, 0, 7],
+    };
+    let text = line_of(rt.alloc(), &bounds, &grid, &coeff, &constant, 1)?;
+    assert_eq!(rt; text.as_slice(), b"f1 = -3/7 # rays rays\n".as_slice());
+    // 1/(x - y), which is no polynomial
+    let pole = Known {
+        num: [0, 0, 0, 1],
+        den: [1, -1, 0],
+    };
+    let text = line_of(rt.alloc(), &bounds, &grid, &coeff, &pole, 1)?;
     assert_eq!(rt; text.as_slice(), b"f1 ? nopair 1\n".as_slice());
     Ok(())
 }
 
 #[test]
-fn a_denominator_that_is_shorter_at_one_modulus(rt: HostRuntime) -> Result<(), Fail> {
+fn denominators_that_lose_their_degree(rt: HostRuntime) -> Result<(), Fail> {
     let bounds = Bounds {
         num: bound(0),
         den: bound(1),
@@ -195,17 +225,36 @@ fn a_denominator_that_is_shorter_at_one_modulus(rt: HostRuntime) -> Result<(), F
         total: 1,
         each: [1, 1, 0, 0, 0, 0, 0, 0],
     };
+    // at the first modulus: 1/((2^61 - 1)*x + 1)
     let coeff = Coeff { num: 10, den: 10 };
-    // 1/((2^61 - 1)*x + 1)
-    let text = line_of(
-        rt.alloc(),
-        &bounds,
-        &grid,
-        &coeff,
-        [0, 0, 0, 1],
-        [2305843009213693951, 0, 1],
-    )?;
-    assert_eq!(rt; text.as_slice(), b"f1 ? unlike 1 x\n".as_slice());
+    let shorter = Known {
+        num: [0, 0, 0, 1],
+        den: [2305843009213693951, 0, 1],
+    };
+    let text = line_of(rt.alloc(), &bounds, &grid, &coeff, &shorter, 1)?;
+    assert_eq!(rt;
+        text.as_slice(),
+        b"f1 ? unlike 1 x # rays rays\n".as_slice()
+    );
+    // on the second ray of attempt 0, which has this slope
+    let coeff = Coeff {
+        num: 10,
+        den: 10_000_000_000,
+    };
+    let steep = Known {
+        num: [0, 0, 0, 1],
+        den: [-4210768217, 1, 0],
+    };
+    let text = line_of(rt.alloc(), &bounds, &grid, &coeff, &steep, 0)?;
+    assert_eq!(rt;
+        text.as_slice(),
+        b"f1 = (-1/4210768217)/(x - 1/4210768217*y) # fit fit\n".as_slice()
+    );
+    let text = line_of(rt.alloc(), &bounds, &grid, &coeff, &steep, 1)?;
+    assert_eq!(rt;
+        text.as_slice(),
+        b"f1 = (-1/4210768217)/(x - 1/4210768217*y) # fit rays\n".as_slice()
+    );
     Ok(())
 }
 
@@ -221,15 +270,19 @@ fn a_coefficient_may_be_too_large(rt: HostRuntime) -> Result<(), Fail> {
         each: [1, 1, 0, 0, 0, 0, 0, 0],
     };
     // 5*x
+    let five_times = Known {
+        num: [0, 0, 5, 0],
+        den: [0, 0, 1],
+    };
     let four = Coeff { num: 4, den: 1 };
-    let text = line_of(rt.alloc(), &bounds, &grid, &four, [0, 0, 5, 0], [0, 0, 1])?;
+    let text = line_of(rt.alloc(), &bounds, &grid, &four, &five_times, 1)?;
     assert_eq!(rt;
         text.as_slice(),
-        b"f1 ? norational numerator x 5\n".as_slice()
+        b"f1 ? norational numerator x 5 # rays rays\n".as_slice()
     );
     let five = Coeff { num: 5, den: 1 };
-    let text = line_of(rt.alloc(), &bounds, &grid, &five, [0, 0, 5, 0], [0, 0, 1])?;
-    assert_eq!(rt; text.as_slice(), b"f1 = 5*x\n".as_slice());
+    let text = line_of(rt.alloc(), &bounds, &grid, &five, &five_times, 1)?;
+    assert_eq!(rt; text.as_slice(), b"f1 = 5*x # rays rays\n".as_slice());
     Ok(())
 }
 

@@ -8,7 +8,7 @@ use native.Mathlib.Decide.{ℕ_discrete, dec_le}
 use Rattle.graph_file.specs.declared.graph.Graph.{Graph}
 use Rattle.graph_eval.specs.declared.learned.GraphLearned.{GraphLearned}
 use Rattle.graph_eval.specs.GraphValue.{Outcome}
-use Rattle.parallel_sampler.specs.declared.table.Row.{Row}
+use Rattle.parallel_sampler.specs.declared.row.Row.{Row}
 use Rattle.parallel_sampler.specs.Board.{times}
 use Rattle.parallel_sampler.specs.Filled.{Filling, FillsRows, HasEnded, HasValue, IsFilledBy, IsMainValue, PutsRow, blocks_of, kept_row, point_at, row_at}
 use Rattle.parallel_sampler.proofs.Counts.{hit_same, hit_other, times_push, up_times}

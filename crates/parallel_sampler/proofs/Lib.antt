@@ -5,3 +5,8 @@ pub mod BoardSteps
 pub mod Turns
 pub mod Filling
 pub mod Points
+pub mod Gathering
+pub mod Crews
+pub mod SharedJobs
+pub mod SentJobs
+pub mod Crossing

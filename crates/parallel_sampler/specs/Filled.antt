@@ -1,13 +1,14 @@
 -- Tables whose rows are filled by blocks: block b of a list of points has the points 32 b to 32 b + 31, as far as there are such points.
-use Rattle.std.specs.Prelude.{◌≡◌, ℕ, ◌/◌, ◌<◌, ◌≤◌, All, List, [], ◌∷◌, ◌++◌, length, slice_get, slice_index_or, slice_set, Option, Some, None, IsSomeAnd, option_map}
+use Rattle.std.specs.Prelude.{◌≡◌, ℕ, ◌/◌, ◌<◌, ◌≤◌, All, List, [], ◌∷◌, ◌++◌, length, slice_get, slice_index_or, slice_set, Option, Some, None, IsSomeAnd, option_map, vec_len}
 use Rattle.std.specs.Int.{div_ceil}
 use Rattle.prime_field.specs.Residue.{IsPrime}
 use Rattle.graph_file.specs.declared.graph.Graph.{Graph}
 use Rattle.graph_eval.specs.declared.learned.GraphLearned.{GraphLearned}
 use Rattle.graph_eval.specs.Evaluated.{outcome_of}
-use Rattle.graph_eval.specs.GraphValue.{GraphValue, Outcome, main_number}
+use Rattle.graph_eval.specs.declared.outcome.Outcome as code
+use Rattle.graph_eval.specs.GraphValue.{GraphValue, Outcome, Value, main_number}
 use Rattle.graph_eval.specs.Learned.{outputs_of, sets_of}
-use Rattle.parallel_sampler.specs.declared.table.Row.{Row}
+use Rattle.parallel_sampler.specs.declared.row.Row.{Row}
 use Rattle.parallel_sampler.specs.Board.{times}
 use Rattle.parallel_sampler.specs.Rows.{FitsRow}
 
@@ -19,6 +20,10 @@ pub record Filling : Type 0 where
 -- what a row of the program's table stands for: nothing before an outcome was kept, and then this outcome with the row's words
 abbrev pub kept_row : Row → Option Outcome
 kept_row row = option_map (outcome_of row.words.items) row.outcome
+
+-- the row has words for so many residues
+abbrev pub HasRoom : ℕ → Row → Type 0
+HasRoom room row = vec_len row.words ≡ room
 
 abbrev pub row_at : List (Option Outcome) → ℕ → Option Outcome
 row_at rows i = slice_index_or rows i None
@@ -65,3 +70,21 @@ pub record HasEnded (blocks : ℕ) (drawn : List ℕ) : Type 0 where
   pub all : drawn ≡ earlier ++ last ∷ []
   pub are_blocks : All (λ x. x < blocks) earlier
   pub no_block : blocks ≤ last
+
+-- the other row where it is not empty, else the own row
+abbrev pub taken : Option Outcome → Option Outcome → Option Outcome
+taken own None = own
+taken own (Some outcome) = Some outcome
+
+-- each row that is not empty in the other table is taken from there, and the rest is as it was
+pub record TakesRows (other before after : List (Option Outcome)) : Type 0 where
+  pub long : length after ≡ length before
+  pub each : (i : ℕ) → i < length before → row_at after i ≡ taken (row_at before i) (row_at other i)
+
+-- what a row stands for that is not empty
+abbrev pub told_of : List ℕ → Option code.Outcome → Outcome
+told_of words None = Value words
+told_of words (Some outcome) = outcome_of words outcome
+
+abbrev pub told_in : Row → Outcome
+told_in row = told_of row.words.items row.outcome

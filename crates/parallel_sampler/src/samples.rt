@@ -1,52 +1,49 @@
 //! Rows of samples.
 
-ghost use Rattle.std.specs.Prelude.{◌≡◌, ℕ, ◌*◌, ◌<◌, List, Some, IfNone, IfSome, length, slice_get};
+ghost use Rattle.std.specs.Prelude.{◌≡◌, ℕ, ◌<◌, All, IsSome, List, Some, IfNone, IfSome, length, map, slice_get};
 ghost use Rattle.graph_eval.specs.GraphValue.{Value, SingularAt};
 ghost use Rattle.graph_eval.specs.declared.outcome.Cause.{Cause};
-ghost use Rattle.parallel_sampler.specs.Rows.{rows_of};
+ghost use Rattle.parallel_sampler.specs.Filled.{told_in};
+ghost use Rattle.parallel_sampler.specs.declared.row.Row.{Row as RowOf};
 
-use graph_eval::Singular;
+use crate::row::Row;
+use graph_eval::{Outcome, Singular};
 use std::marker::Model;
 
 /// A row for each of some points, which contracts see as the list of what a graph has at them: the values of its outputs,
 /// or the first node without a value.
 #[derive(Debug, Drop)]
 pub struct Samples {
-    outputs: usize,
-    words: Vec<u64>,
-    told: Vec<Option<Singular>>,
+    rows: Vec<Row>,
 }
 
 impl Model for Samples {
-    ghost use Rattle.std.specs.Prelude.{◌≡◌, ◌*◌, List, length};
+    ghost use Rattle.std.specs.Prelude.{All, IsSome, List, map};
     ghost use Rattle.graph_eval.specs.GraphValue.{Outcome};
-    ghost use Rattle.parallel_sampler.specs.Rows.{rows_of};
+    ghost use Rattle.parallel_sampler.specs.Filled.{told_in};
+    ghost use Rattle.parallel_sampler.specs.declared.row.Row.{Row};
 
     ghost Value = { List Outcome };
 
-    ghost view = { λ s. rows_of s.outputs s.words.items s.told.items };
+    ghost view = { λ s. map told_in s.rows.items };
 
-    ghost invariant = { λ s. length s.words.items ≡ length s.told.items * s.outputs };
+    ghost invariant = { λ s. All (λ (row : Row). IsSome row.outcome) s.rows.items };
 }
 
 impl Samples {
-    /// The rows whose words stand in one block, `outputs` of them a row, beside the node that is told for each row.
-    pub(crate) fn of(outputs: usize, words: Vec<u64>, told: Vec<Option<Singular>>) -> Samples
-        requires { length words.items ≡ length told.items * outputs }
-        ensures { result ≡ rows_of outputs words.items told.items }
+    /// The rows of a table, none of them empty.
+    pub(crate) fn of(rows: Vec<Row>) -> Samples
+        requires { All (λ (row : RowOf). IsSome row.outcome) rows.items }
+        ensures { result ≡ map told_in rows.items }
     {
-        Samples {
-            outputs,
-            words,
-            told,
-        }
+        Samples { rows }
     }
 
     /// How many rows there are.
     pub fn len(&self) -> usize
         ensures { result ≡ length self.now }
     {
-        self.told.len()
+        self.rows.len()
     }
 
     /// The values of row `i`, where it has values.
@@ -55,13 +52,7 @@ impl Samples {
         ensures some { IfSome result (λ values. slice_get self.now i ≡ Some (Value values.now)) }
         ensures none { IfNone result ((node : ℕ) × (cause : Cause) × (slice_get self.now i ≡ Some (SingularAt node cause))) }
     {
-        match self.told[i] {
-            None => {
-                let start = i * self.outputs;
-                Some(&self.words[start..start + self.outputs])
-            }
-            Some(_) => None,
-        }
+        self.rows[i].values()
     }
 
     /// The node that has no value at point `i`, where there is one.
@@ -70,6 +61,6 @@ impl Samples {
         ensures some { IfSome result (λ singular. slice_get self.now i ≡ Some (SingularAt singular.node singular.cause)) }
         ensures none { IfNone result ((values : List ℕ) × (slice_get self.now i ≡ Some (Value values))) }
     {
-        self.told[i]
+        self.rows[i].singular()
     }
 }

@@ -1,15 +1,17 @@
 //! A table with a row for each of some points, which is filled block by block.
 
-ghost use Rattle.std.specs.Prelude.{◌≡◌, ◌+◌, ◌*◌, ◌<◌, ◌≤◌, All, None, IfOk, is_some, length, min, replicate, slice_get};
+ghost use Rattle.std.specs.Prelude.{◌≡◌, ℕ, ◌+◌, ◌*◌, ◌<◌, ◌≤◌, All, IsSome, None, Some, IfOk, is_some, length, map, min, replicate, slice_get};
 ghost use Rattle.prime_field.specs.Modulus.{value_of};
 ghost use Rattle.graph_eval.specs.Evaluated.{HasInputs};
 ghost use Rattle.graph_eval.specs.GraphValue.{main_number};
 ghost use Rattle.graph_eval.specs.Learned.{Fits, outputs_of};
 ghost use Rattle.graph_eval.specs.Made.{IsMadeFor};
-ghost use Rattle.parallel_sampler.specs.Filled.{FillsRows, PutsRow, blocks_of, row_at};
+ghost use Rattle.parallel_sampler.specs.Filled.{FillsRows, HasRoom, PutsRow, TakesRows, blocks_of, kept_row, row_at};
 
 use crate::NoMemory;
-use graph_eval::{Learned, Outcome, Worker};
+use crate::row::Row;
+use crate::samples::Samples;
+use graph_eval::{Learned, Worker};
 use graph_file::Job;
 use poly_maps::Point;
 use prime_field::Modulus;
@@ -18,13 +20,6 @@ use std::marker::Model;
 
 /// How many points a block has, the last one of a list perhaps fewer.
 pub(crate) const BLOCK: usize = 32;
-
-// Empty while no outcome is kept.
-#[derive(Drop)]
-struct Row {
-    outcome: Option<Outcome>,
-    words: Vec<u64>,
-}
 
 /// A row for each of some points. Contracts see the list of the rows, each empty or what a graph has at the row's point, and
 /// the room of each row in residues.
@@ -35,15 +30,14 @@ pub struct Table {
 }
 
 impl Model for Table {
-    ghost use Rattle.std.specs.Prelude.{◌≡◌, All, map, vec_len};
-    ghost use Rattle.parallel_sampler.specs.declared.table.Row.{Row};
-    ghost use Rattle.parallel_sampler.specs.Filled.{Filling, kept_row};
+    ghost use Rattle.std.specs.Prelude.{All, map};
+    ghost use Rattle.parallel_sampler.specs.Filled.{Filling, HasRoom, kept_row};
 
     ghost Value = { Filling };
 
     ghost view = { λ t. record { rows = map kept_row t.rows.items; room = t.room } };
 
-    ghost invariant = { λ t. All (λ (row : Row). vec_len row.words ≡ t.room) t.rows.items };
+    ghost invariant = { λ t. All (HasRoom t.room) t.rows.items };
 }
 
 impl Table {
@@ -124,5 +118,36 @@ impl Table {
         for i in first..end {
             self.put(i, worker, job, learned, m, &points[i]);
         }
+    }
+
+    /// Takes over each row of the other table that is not empty.
+    pub(crate) fn take_from(&mut self, other: Table)
+        requires rows { length other.rows ≡ length self.old.rows }
+        requires room { other.room ≡ self.old.room }
+        ensures rows { TakesRows other.rows self.old.rows self.new.rows }
+        ensures room { self.new.room ≡ self.old.room }
+    {
+        let Table { mut rows, room: _ } = other;
+        take_rows(self.rows.as_mut_slice(), rows.as_mut_slice());
+    }
+
+    /// The rows as samples, where none of them is empty.
+    pub(crate) fn into_samples(self) -> Samples
+        requires { All (λ row. IsSome row) self.rows }
+        ensures { map Some result ≡ self.rows }
+    {
+        let Table { rows, room: _ } = self;
+        Samples::of(rows)
+    }
+}
+
+/// Takes over each of the other rows that is not empty. Where all rows have the same room, it stays so.
+fn take_rows(rows: &mut [Row], others: &mut [Row])
+    requires { length others.old ≡ length rows.old }
+    ensures rows { TakesRows (map kept_row others.old) (map kept_row rows.old) (map kept_row rows.new) }
+    ensures room { (room : ℕ) → All (HasRoom room) rows.old → All (HasRoom room) others.old → All (HasRoom room) rows.new }
+{
+    for i in 0..rows.len() {
+        rows[i].take_from(&mut others[i]);
     }
 }

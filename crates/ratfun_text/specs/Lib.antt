@@ -1,6 +1,7 @@
 pub mod Bytes
 pub mod Faults
 pub mod Grammar
+pub mod Keys
 pub mod Names
 pub mod Parts
 pub mod Printed

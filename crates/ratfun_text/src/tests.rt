@@ -11,6 +11,7 @@ use poly_maps::{Frac, Mono};
 use prime_field::Modulus;
 use sqlite_items::Items;
 use std::alloc::{AllocError, Global};
+use std::hash::{DefaultHasher, Hash, Hasher};
 use std::process::Abort;
 use std::test::Fail;
 
@@ -65,6 +66,12 @@ fn around(
 
 fn crosses<T: Send + Sync>() {}
 
+fn hash_of<T: Hash>(value: &T) -> u64 {
+    let mut state = DefaultHasher::new();
+    value.hash(&mut state);
+    state.finish()
+}
+
 #[test]
 fn types_cross_threads() {
     crosses::<Expr>();
@@ -79,6 +86,18 @@ fn types_cross_threads() {
 fn names_keep_their_bytes(rt: HostRuntime) -> Result<(), Fail> {
     let name = Name::of(rt.alloc(), b"eps_1")?;
     assert_eq!(rt; name.bytes(), b"eps_1".as_slice());
+    Ok(())
+}
+
+#[test]
+fn names_are_equal_and_hash_alike_by_their_bytes(rt: HostRuntime) -> Result<(), Fail> {
+    let name = Name::of(rt.alloc(), b"eps_1")?;
+    let same = Name::of(rt.alloc(), b"eps_1")?;
+    let other = Name::of(rt.alloc(), b"eps_12")?;
+    assert!(rt; name == same);
+    assert!(rt; name != other);
+    assert_eq!(rt; hash_of(&name), hash_of(&same));
+    assert!(rt; hash_of(&name) != hash_of(&other));
     Ok(())
 }
 

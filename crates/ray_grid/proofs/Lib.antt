@@ -2,3 +2,4 @@ pub mod Directions
 pub mod Forcing
 pub mod RayLemmas
 pub mod Vanishing
+pub mod Counted

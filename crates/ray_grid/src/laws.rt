@@ -1,16 +1,17 @@
 //! Which points pin a polynomial. Each function does nothing; its contract is the law.
 
-ghost use Rattle.std.specs.Prelude.{◌≡◌, ℕ, ◌%◌, All, Bool, IsTrue, List, length};
+ghost use Rattle.std.specs.Prelude.{◌≡◌, ℕ, ◌%◌, ◌≤◌, All, Bool, IsTrue, List, length};
 ghost use Rattle.prime_field.specs.Modulus.{value_of};
 ghost use Rattle.prime_field.specs.declared.Modulus.{Modulus};
 ghost use Rattle.poly_maps.specs.declared.bound.Bound.{Bound};
 ghost use Rattle.poly_maps.specs.Bound.{IsWithin, WithinBound};
 ghost use Rattle.poly_maps.specs.Forcing.{IsForcing};
-ghost use Rattle.poly_maps.specs.Mono.{IsBelow};
+ghost use Rattle.poly_maps.specs.Mono.{HasEight, IsBelow};
 ghost use Rattle.poly_maps.specs.Polynomial.{coefficient, value_at, Supported};
 ghost use Rattle.poly_maps.specs.Shifted.{IsLower};
 ghost use Rattle.ray_grid.specs.declared.grid.Grid.{Grid};
 ghost use Rattle.ray_grid.specs.Attempt.{attempt_points};
+ghost use Rattle.ray_grid.specs.Covering.{ListsMonomials, monomial_count};
 ghost use Rattle.ray_grid.specs.Grid.{IsGrid, bound_of, point_count};
 ghost use Rattle.ray_grid.specs.Vanishing.{grid_point, AreAxes};
 
@@ -36,4 +37,10 @@ pub fn attempts_are_forcing()
 pub fn attempts_have_points()
     ensures count { (g : Grid) (r : ℕ) → length (attempt_points g r) ≡ point_count g }
     ensures entries { (g : Grid) (r : ℕ) → IsGrid g → All (λ x. length x ≡ g.variables) (attempt_points g r) }
+{}
+
+/// The ascending list of the monomials within a bound has as many as are counted.
+pub fn count_is_length()
+    ensures { (b : Bound) (variables : ℕ) (es : List (List ℕ)) → HasEight b.each → variables ≤ 8 → ListsMonomials b variables es →
+        length es ≡ monomial_count b variables }
 {}

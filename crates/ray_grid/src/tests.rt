@@ -1,5 +1,5 @@
 use super::*;
-use poly_maps::Point;
+use poly_maps::{Bound, Bounds, Point};
 use std::test::Fail;
 
 fn may_be_shared<T: Send + Sync>(_value: &T) {}
@@ -141,5 +141,65 @@ fn points_of_eight_variables_go_to_other_threads(rt: HostRuntime) -> Result<(), 
         583442774255181071,
     ];
     assert_eq!(rt; last.entries(), wanted.as_slice());
+    Ok(())
+}
+
+#[test]
+fn as_many_monomials_as_may_be(rt: HostRuntime) -> Result<(), Fail> {
+    let one = Bound {
+        total: 0,
+        each: [0; 8],
+    };
+    // up to degree 5 in 7 variables there are 792 monomials, in 8 variables 1287
+    let wide = Bound {
+        total: 5,
+        each: [256; 8],
+    };
+    assert!(rt;
+        has_few(
+            &Bounds {
+                num: wide,
+                den: one
+            },
+            7
+        )
+    );
+    assert!(rt;
+        !has_few(
+            &Bounds {
+                num: wide,
+                den: one
+            },
+            8
+        )
+    );
+    // 1023 and 1 are few, 1024 and 1 too many
+    let row = |total: u32| Bound {
+        total,
+        each: [1023, 0, 0, 0, 0, 0, 0, 0],
+    };
+    assert!(rt;
+        has_few(
+            &Bounds {
+                num: row(1022),
+                den: one
+            },
+            1
+        )
+    );
+    assert!(rt;
+        !has_few(
+            &Bounds {
+                num: one,
+                den: row(1023)
+            },
+            1
+        )
+    );
+    let all = Bound {
+        total: 256,
+        each: [256; 8],
+    };
+    assert!(rt; !has_few(&Bounds { num: all, den: all }, 8));
     Ok(())
 }

@@ -1,20 +1,19 @@
 -- What a file asks for is sound.
-use Rattle.std.proofs.Common.{◌≡◌, ◌≢◌, ℕ, zero, suc, ◌+◌, ◌*◌, ◌-◌, ◌^◌, ◌<◌, ◌≤◌, List, [], ◌∷◌, length, Option, Some, None, refl, sym, ◌∙◌, ap, subst, arith, lit<, lit≤}
-use Rattle.std.specs.Prelude.{slice_get, slice_range}
+use Rattle.std.proofs.Common.{◌≡◌, ◌≢◌, ℕ, ◌+◌, ◌*◌, ◌-◌, ◌^◌, ◌<◌, ◌≤◌, List, [], ◌∷◌, length, Option, Some, None, refl, sym, subst, arith, lit<}
+use Rattle.std.specs.Prelude.{slice_get}
 use Rattle.std.proofs.Math.Nat.{mul-le-mul}
 use Rattle.prime_field.specs.Modulus.{value_of}
 use Rattle.prime_field.specs.declared.Modulus.{Modulus}
 use Rattle.prime_field.specs.declared.Modulus.TheVariants.{First, Second}
 use Rattle.poly_maps.specs.Forcing.{IsForcing}
-use Rattle.poly_maps.specs.declared.bound.Bound.{Bound}
 use Rattle.ray_grid.specs.Attempt.{attempt_points}
 use Rattle.ray_grid.specs.Grid.{IsGrid, bound_of, choices, later_degrees, point_count}
 use Rattle.ray_grid.specs.declared.grid.Grid.{Grid}
-use Rattle.multivar_recon.specs.Covering.{Covers}
+use Rattle.ray_grid.specs.Covering.{Covers}
 use Rattle.rational_lift.specs.Joined.{both}
 use Rattle.rational_lift.specs.declared.coeff.Coeff.{Coeff}
 use Rattle.ratfun_text.specs.Printed.{AreVariables}
-use Rattle.graph_file.specs.Bounded.{HasBounds, inputs_of, main_variables}
+use Rattle.graph_file.specs.Bounded.{HasBounds, inputs_of}
 use Rattle.graph_file.specs.File.{IsGoodFile}
 use Rattle.graph_file.specs.Says.{FileForm, Says, bounds_at, grid_of}
 use Rattle.graph_file.specs.declared.graph.Graph.{Graph}

@@ -1,14 +1,17 @@
 -- What is found is one thing.
-use Rattle.std.proofs.Common.{◌≡◌, ℕ, suc, ◌<◌, List, [], ◌∷◌, length, Option, Some, None, refl, sym, ◌∙◌, ap, subst, arith}
+use Rattle.std.proofs.Common.{◌≡◌, ℕ, suc, ◌+◌, List, [], ◌∷◌, ◌++◌, length, Some, refl, sym, ◌∙◌, ap, subst, arith}
 use Rattle.std.specs.Prelude.{slice_get}
 use Rattle.prime_field.specs.declared.Modulus.{Modulus}
 use Rattle.prime_field.specs.declared.Modulus.TheVariants.{First, Second}
 use Rattle.poly_maps.specs.declared.bound.Bound.{Bound}
-use Rattle.good_attempt.specs.Attempts.{Exhausted as none, Good, Sampling, Taken}
+use Rattle.good_attempt.specs.Attempts.{Exhausted as none, Good, Taken}
 use Rattle.good_attempt.specs.declared.gap.Gap.{Gap}
-use Rattle.output_result.specs.Outputs.{IsPinned}
+use Rattle.ray_grid.specs.declared.grid.Grid.{Grid}
+use Rattle.output_result.specs.Methods.{IsReport}
+use Rattle.output_result.specs.Outputs.{Output, IsPinned}
 use Rattle.output_result.specs.Results.{Result}
-use Rattle.reconstruction.specs.Functions.{AreResults, AreTaken, Exhausted, Findings, Found, Functions, Reconstructs, output_of}
+use Rattle.output_result.specs.Texts.{Report, lines_from, report_text, result_line, results_text}
+use Rattle.reconstruction.specs.Functions.{AreReported, AreResults, AreTaken, Exhausted, Findings, Found, Functions, Reconstructs, output_of}
 use Rattle.reconstruction.proofs.Sound.{IsSound, Laws}
 
 good_once : (a b : Taken) → Good a ≡ Good b → a ≡ b
@@ -59,3 +62,31 @@ module _ (laws : Laws) (job : Functions) (grid : Bound) (sound : IsSound job gri
   pub found_where_taken : {C : Type 0} (taken : Modulus → Taken) (m : Modulus) (gaps : List Gap) → AreTaken job taken → Reconstructs job (Exhausted m gaps) → C
   found_where_taken taken First gaps are found = good_or_none (taken First) gaps (sound.once First (Good (taken First)) (none gaps) (are First) found)
   found_where_taken taken Second gaps are found = good_or_none (taken Second) gaps (sound.once Second (Good (taken Second)) (none gaps) (are Second) found.1)
+
+-- lines with reports that read the same
+same_lines : (names : List (List ℕ)) (r s : ℕ → Report) (number : ℕ) (results : List Result) → ((k : ℕ) (result : Result) → slice_get results k ≡ Some result → report_text (r (number + k)) result ≡ report_text (s (number + k)) result)
+    → lines_from names r number results ≡ lines_from names s number results
+same_lines names r s number [] each = refl
+same_lines names r s number (result ∷ results) each =
+    let whole : number + 0 ≡ number = omega arith in
+    let here : report_text (r number) result ≡ report_text (s number) result =
+    ap (λ n. report_text (r n) result) (sym whole) ∙ each 0 result refl ∙ ap (λ n. report_text (s n) result) whole in
+    ap (λ (tail : List ℕ). (result_line names number result ++ tail) ++ 10 ∷ lines_from names r (number + 1) results) here
+    ∙ ap (λ (later : List ℕ). (result_line names number result ++ report_text (s number) result) ++ 10 ∷ later)
+    (same_lines names r s (number + 1) results (λ k other at.
+    let next : number + suc k ≡ number + 1 + k = omega arith in
+    ap (λ n. report_text (r n) other) (sym next) ∙ each (suc k) other at ∙ ap (λ n. report_text (s n) other) next))
+
+-- a report of an output reads one way
+abbrev pub OneReport : Type 0
+OneReport = (grid : Grid) (attempts : Modulus → ℕ) (o : Output) (result : Result) (r s : Report) → IsReport grid attempts o result r → IsReport grid attempts o result s → report_text r result ≡ report_text s result
+
+pub reports_once : OneReport → (laws : Laws) (job : Functions) (grid : Bound) → IsSound job grid → (r s : ℕ → Report) (results : List Result) → AreReported job (Found results) r → AreReported job (Found results) s
+    → results_text job.names r results ≡ results_text job.names s results
+reports_once one laws job grid sound r s results first second =
+    let same = taken_once laws job grid sound second.0 first.0 second.1.0 first.1.0 in
+    let there : (k : ℕ) (result : Result) → slice_get results k ≡ Some result → IsReport job.grid (λ m. (first.0 m).attempt) (output_of job first.0 k) result (s (k + 1)) =
+    subst (λ (t : Modulus → Taken). (k : ℕ) (result : Result) → slice_get results k ≡ Some result → IsReport job.grid (λ m. (t m).attempt) (output_of job t k) result (s (k + 1))) same second.1.1 in
+    same_lines job.names r s 1 results (λ k result at.
+    let number : k + 1 ≡ 1 + k = omega arith in
+    ap (λ n. report_text (r n) result) (sym number) ∙ one job.grid (λ m. (first.0 m).attempt) (output_of job first.0 k) result (r (k + 1)) (s (k + 1)) (first.1.1 k result at) (there k result at) ∙ ap (λ n. report_text (s n) result) number)

@@ -1,5 +1,5 @@
 -- What a text of results promises.
-use Rattle.std.proofs.Common.{◌≡◌, ℕ, zero, suc, ◌+◌, ◌^◌, ◌<◌, Bool, true, false, List, [], ◌∷◌, length, Option, Some, None, refl, sym, ◌∙◌, ap, subst, arith}
+use Rattle.std.proofs.Common.{◌≡◌, ℕ, zero, suc, ◌^◌, ◌<◌, true, List, [], ◌∷◌, length, Some, refl, sym, ◌∙◌, ap, subst, arith}
 use Rattle.std.specs.Prelude.{slice_get, ◌&&◌}
 use Rattle.prime_field.specs.Modulus.{value_of}
 use Rattle.prime_field.specs.Residue.{IsPrime}
@@ -9,11 +9,11 @@ use Rattle.poly_maps.specs.declared.bound.Bound.{Bound}
 use Rattle.rational_lift.specs.Lifting.{Lifted}
 use Rattle.good_attempt.specs.Attempts.{Taken}
 use Rattle.output_result.specs.Outputs.{ReducesWellAt}
-use Rattle.output_result.specs.Printing.{AreShown, IsShown, PrintsFunction}
-use Rattle.output_result.specs.Results.{Lifts, OutputResult, Result}
-use Rattle.output_result.specs.Texts.{all_found, is_found, results_text}
+use Rattle.output_result.specs.Printing.{AreShown, IsShown}
+use Rattle.output_result.specs.Results.{Lifts, Result}
+use Rattle.output_result.specs.Texts.{Report, all_found, is_found, results_text}
 use Rattle.reconstruction.specs.Functions.{AllReduceWell, AreResults, AreTaken, Found, Functions, IsOutput, Reconstructs, output_of}
-use Rattle.reconstruction.specs.Headline.{PrintedTaken, PrintedUnique, Prints, QuotientPrinted}
+use Rattle.reconstruction.specs.Headline.{PrintedTaken, PrintedUnique, QuotientPrinted}
 use Rattle.reconstruction.proofs.Once.{pinned, taken_once}
 use Rattle.reconstruction.proofs.Sound.{IsSound, Laws}
 
@@ -45,23 +45,23 @@ module _ (laws : Laws) (job : Functions) (grid : Bound) (sound : IsSound job gri
       → IsOutput job taken k F → ReducesWellAt (output_of job taken k) F → r ≡ Lifts (Lifted F)
   result_at prime taken results are k F r at is well = laws.quotient_is_found job.coeff grid (output_of job taken k) F r prime sound.narrow (pinned laws job grid sound taken k) is well (are.each k r at)
 
-  pub quotients : ((m : Modulus) → IsPrime (value_of m)) → (results : List Result) → Reconstructs job (Found results) → QuotientPrinted job (results_text job.names results)
-  quotients prime results found taken k F are low is well =
+  pub quotients : ((m : Modulus) → IsPrime (value_of m)) → (reports : ℕ → Report) (results : List Result) → Reconstructs job (Found results) → QuotientPrinted job (results_text job.names reports results)
+  quotients prime reports results found taken k F are low is well =
       let same : found.0 ≡ taken = taken_once laws job grid sound found.0 taken found.1.0 are in
       let here : AreResults job taken results = subst (λ (t : Modulus → Taken). AreResults job t results) same found.1.1 in
       let at = there results k (omega (arith, low, here.all)) in
       let result : at.0 ≡ Lifts (Lifted F) = result_at prime taken results here k F at.0 at.1 is well in
-      laws.found_is_printed job.names results k F sound.names (few taken results here) (shown taken results here) (at.1 ∙ ap Some result)
+      laws.found_is_printed job.names reports results k F sound.names (few taken results here) (shown taken results here) (at.1 ∙ ap Some result)
 
-  pub unique : (results : List Result) → Reconstructs job (Found results) → PrintedUnique job (results_text job.names results)
-  unique results found taken k F are prints m g agrees =
+  pub unique : (reports : ℕ → Report) (results : List Result) → Reconstructs job (Found results) → PrintedUnique job (results_text job.names reports results)
+  unique reports results found taken k F are prints m g agrees =
       let same : found.0 ≡ taken = taken_once laws job grid sound found.0 taken found.1.0 are in
       let here : AreResults job taken results = subst (λ (t : Modulus → Taken). AreResults job t results) same found.1.1 in
-      let at = laws.printed_is_found job.names results k F sound.names (few taken results here) (shown taken results here) prints in
+      let at = laws.printed_is_found job.names reports results k F sound.names (few taken results here) (shown taken results here) prints in
       laws.agreeing_are_cross_equal job.coeff grid (output_of job taken k) F (pinned laws job grid sound taken k) (here.each k (Lifts (Lifted F)) at) m g agrees
 
-  pub attempts : (results : List Result) → Reconstructs job (Found results) → PrintedTaken job (results_text job.names results)
-  attempts results found k F prints = (found.0, found.1.0)
+  pub attempts : (reports : ℕ → Report) (results : List Result) → Reconstructs job (Found results) → PrintedTaken job (results_text job.names reports results)
+  attempts reports results found k F prints = (found.0, found.1.0)
 
   pub all_well : ((m : Modulus) → IsPrime (value_of m)) → (results : List Result) → Reconstructs job (Found results) → (taken : Modulus → Taken) → AreTaken job taken → AllReduceWell job taken → all_found results ≡ true
   all_well prime results found taken are well =

@@ -3,7 +3,7 @@ use Rattle.std.proofs.Common.{◌≡◌, ◌≢◌, ℕ, zero, suc, inl, inr, co
 use Rattle.std.specs.Prelude.{slice_index}
 use Rattle.std.specs.declared.cmp.Ordering.TheVariants.{Equal, Less}
 use Rattle.std.proofs.lemmas.Bool.{cases_Bool, cases_eq}
-use Rattle.std.proofs.Math.Nat.{mod-mod, mod-lt, mod-eq_of_lt, zero-mod, pow-suc, pow-zero}
+use Rattle.std.proofs.Math.Nat.{mod-mod, mod-eq_of_lt, zero-mod, pow-suc, pow-zero}
 use Rattle.std.specs.List.{AllByRecursion}
 use Rattle.std.proofs.lemmas.List.Elements.{All-from_recursion}
 use Rattle.prime_field.specs.Modulus.{value_of}
@@ -12,7 +12,7 @@ use Rattle.prime_field.specs.declared.Modulus.{Modulus}
 use Rattle.prime_field.proofs.Units.{inverse_is}
 use Rattle.poly_maps.specs.Bound.{WithinBound}
 use Rattle.poly_maps.specs.Fraction.{IsRational}
-use Rattle.poly_maps.specs.Mono.{HasEight, degree, is_same, mono_cmp, mono_value}
+use Rattle.poly_maps.specs.Mono.{HasEight, degree, is_same, mono_cmp}
 use Rattle.poly_maps.proofs.MonoLemmas.{is_same-true, mono_degree, mono_itself}
 use Rattle.poly_maps.specs.Pair.{Agrees}
 use Rattle.poly_maps.specs.Polynomial.{coefficient, value_at, Supported}
@@ -22,7 +22,7 @@ use Rattle.poly_maps.specs.declared.bound.Bounds.{Bounds}
 use Rattle.poly_maps.specs.declared.fraction.Frac.{Frac}
 use Rattle.poly_maps.specs.declared.pair.Pair.{Pair}
 use Rattle.poly_maps.proofs.Fractions.{whole_fraction}
-use Rattle.multivar_recon.specs.Least.{IsAgreeing, IsLeastPair, Vanishes, VanishesFrom}
+use Rattle.multivar_recon.specs.Least.{IsLeastPair, Vanishes, VanishesFrom}
 use Rattle.rational_lift.specs.declared.coeff.Coeff.{Coeff}
 use Rattle.output_result.specs.Outputs.{Output, IsQuotient, ReducesWell}
 

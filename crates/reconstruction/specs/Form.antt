@@ -24,6 +24,7 @@ functions_of form learned = record {
   outputs = outputs_of learned;
   bounds = λ k. bounds_at form (k + 1);
   coeff = form.coeff;
+  grid = grid_of form;
   attempts = attempt_points (grid_of form);
   meaning = λ m. GraphValue (value_of m) form.graphs (sets_of learned) (main_number form.graphs);
 }

@@ -1,23 +1,28 @@
 -- What is asked of a job's outputs as functions, and what is found of them.
-use Rattle.std.specs.Prelude.{◌≡◌, ℕ, ◌<◌, List, length, slice_get, Some}
+use Rattle.std.specs.Prelude.{◌≡◌, ℕ, ◌+◌, ◌<◌, List, length, slice_get, Some}
 use Rattle.prime_field.specs.declared.Modulus.{Modulus}
 use Rattle.prime_field.specs.declared.Modulus.TheVariants.{First, Second}
 use Rattle.poly_maps.specs.declared.bound.Bounds.{Bounds}
 use Rattle.poly_maps.specs.Quotient.{RationalPair}
+use Rattle.ray_grid.specs.declared.grid.Grid.{Grid}
 use Rattle.graph_eval.specs.GraphValue.{Meaning}
 use Rattle.good_attempt.specs.Attempts.{IsExhausted, IsFirstGood, Taken, column}
 use Rattle.good_attempt.specs.declared.gap.Gap.{Gap}
 use Rattle.rational_lift.specs.declared.coeff.Coeff.{Coeff}
 use Rattle.output_result.specs.Outputs.{Output, IsQuotient, ReducesWellAt}
+use Rattle.output_result.specs.Methods.{IsReport}
 use Rattle.output_result.specs.Results.{OutputResult, Result}
+use Rattle.output_result.specs.Texts.{Report}
 
 -- what the outputs are asked as functions of: the names of the variables, how many outputs there are, the bounds on each,
--- counted from 0, those on coefficients, the points of each attempt, and what the main graph means at each modulus
+-- counted from 0, those on coefficients, the grid that covers them, the points of each attempt over it, and what the main
+-- graph means at each modulus
 pub record Functions : Type 1 where
   pub names : List (List ℕ)
   pub outputs : ℕ
   pub bounds : ℕ → Bounds
   pub coeff : Coeff
+  pub grid : Grid
   pub attempts : ℕ → List (List ℕ)
   pub meaning : Modulus → Meaning
 
@@ -49,6 +54,13 @@ abbrev pub Reconstructs : Functions → Findings → Type 0
 Reconstructs job (Exhausted First gaps) = IsExhausted (job.meaning First) job.attempts gaps
 Reconstructs job (Exhausted Second gaps) = ((first : Taken) × IsFirstGood (job.meaning First) job.attempts first) × IsExhausted (job.meaning Second) job.attempts gaps
 Reconstructs job (Found results) = (taken : Modulus → Taken) × (AreTaken job taken × AreResults job taken results)
+
+-- Over the attempts taken, the reports tell how the least pairs of each output are found; reports are counted from 1. Nothing is
+-- told where a modulus is exhausted.
+abbrev pub AreReported : Functions → Findings → (ℕ → Report) → Type 0
+AreReported job (Exhausted m gaps) reports = Unit {0}
+AreReported job (Found results) reports = (taken : Modulus → Taken) × (AreTaken job taken ×
+    ((k : ℕ) (result : Result) → slice_get results k ≡ Some result → IsReport job.grid (λ m. (taken m).attempt) (output_of job taken k) result (reports (k + 1))))
 
 -- output k is the quotient F, over these attempts
 abbrev pub IsOutput : Functions → (Modulus → Taken) → ℕ → RationalPair → Type 0

@@ -10,5 +10,6 @@ returns c =
       one_told = c.one_fault.ensures;
       told_or_nothing = λ need bytes n a bad good. c.no_fault.ensures need bytes n a good bad;
       one_finding = c.one_finding.ensures.once;
+      one_report = c.one_finding.ensures.reported;
       one_form = c.one_form.ensures;
     } in one_run laws

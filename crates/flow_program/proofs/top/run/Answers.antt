@@ -5,7 +5,7 @@ use Rattle.flow_program.specs.Status.{code_of}
 use Rattle.flow_program.specs.declared.status.Status.TheVariants.{WriteFault}
 use Rattle.flow_program.specs.Reply.{answer_of}
 use Rattle.flow_program.specs.Words.{texts}
-use Rattle.flow_program.proofs.Ends.{FunctionLaws, fault_runs, nothing_stands, told_runs}
+use Rattle.flow_program.proofs.Ends.{FunctionLaws, fault_runs, nothing_stands, read_faulted, told_runs}
 use Rattle.flow_program.proofs.top.run.Goals as goal
 
 pub returns-in-Ok-deliver : goal.returns-in-Ok-deliver
@@ -38,3 +38,8 @@ returns-in-Ok g c =
     let words = texts c.args.words.now in
     let front : TellsAnswerFront words before after = record { answer = answer_of c.in-Ok.reply; is_right = c.in-Ok.ensures.right; out_told = c.in-Err.ensures.out_front; err_told = c.in-Err.ensures.err_front } in
     fault_runs words before after WriteFault (lit≤ tt) (λ fine. absurd (fine (inr c.in-Err.ensures.failed))) (λ is. cc) (λ is. (c.in-Err.ensures.failed, inl front)) (λ is. cc)
+
+pub returns-in-Err-ReadFault : goal.returns-in-Err-ReadFault
+returns-in-Err-ReadFault g c =
+    read_faulted (texts c.args.words.now) (g.H.Shelf.view c.args.shelf.now) (g.H.Shelf.view c.work_out.new.shelf) (g.O.Sink.view c.args.out.now) (g.E.Sink.view c.args.err.now) (g.E.Sink.view c.tell.new.err) c.tell.result
+    (c.in-Err-ReadFault.ensures.failed (cc)) c.tell.ensures.either c.tell.ensures.told c.tell.ensures.front c.tell.ensures.failed

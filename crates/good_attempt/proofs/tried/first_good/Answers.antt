@@ -16,14 +16,14 @@ use Rattle.good_attempt.proofs.Trying.{first_gap_of, fits_gap, fits_rows, gaps_m
 use Rattle.good_attempt.proofs.tried.first_good.Goals as goal
 
 pub returns-in-None-clause-sampling : goal.returns-in-None-clause-sampling
-returns-in-None-clause-sampling c = λ prime.
+returns-in-None-clause-sampling g c = λ prime.
     let graphs = c.args.job.now.graphs in
     let low : c.loop-r.r < 8 = omega (arith, c.loop-r-test.true, c.loop-r.auto.r-end) in
     good_of (GraphValue (value_of c.args.m) graphs (sets_of c.args.learned.now) (main_number graphs)) (attempt_points c.args.grid.now) c.loop-r.gaps.items c.deref.result.now c.in_ok-samples.samples c.loop-r.r c.of.result
     (c.loop-r.invariant.1 prime) c.loop-r.invariant.0 low (c.deref.ensures.value ∙ c.in_ok-points.ensures.points) (c.in_ok-samples.ensures.rows prime) c.in-None.ensures.none c.of.ensures.number c.of.ensures.rows
 
 pub returns-in-None-clause-fits : goal.returns-in-None-clause-fits
-returns-in-None-clause-fits c =
+returns-in-None-clause-fits g c =
     let graphs = c.args.job.now.graphs in
     let rows = c.in_ok-samples.samples in
     let low : c.of.result.attempt < 8 = omega (arith, c.loop-r-test.true, c.loop-r.auto.r-end, c.of.ensures.number) in
@@ -34,7 +34,7 @@ returns-in-None-clause-fits c =
     )
 
 pub loop-r-preserved : goal.loop-r-preserved
-loop-r-preserved c =
+loop-r-preserved g c =
     let m = value_of c.args.m in
     let graphs = c.args.job.now.graphs in
     let graph = slice_get graphs (main_number graphs) in
@@ -53,4 +53,5 @@ loop-r-preserved c =
           subst (AreFirstGaps meaning attempts) (sym pushed) (gaps_more meaning attempts gaps gap c.loop-r.r (c.loop-r.invariant.1 prime) c.loop-r.invariant.0 is),
       subst (All (FitsGap graph (point_count c.args.grid.now))) (sym pushed)
           (All-push (FitsGap graph (point_count c.args.grid.now)) gaps gap c.loop-r.invariant.2 (fits_gap m graph (outputs_of c.args.learned.now) (point_count c.args.grid.now) rows gap c.in_ok-samples.ensures.fits count c.in-Some.ensures.some)),
+      c.in_ok-samples.ensures.made,
     )

@@ -1,43 +1,50 @@
 -- A graph is evaluated node by node, and an earlier graph above the lists so far.
-use Rattle.std.proofs.Common.{All, Bool, Err, List, MatchBool, None, Ok, Option, Some, [], ap, arith, drop, if◌then◌else◌, length, length-append, length-drop, length-take, map, refl, set, subst, sym, take, take-append-drop, ℕ, ◌*◌, ◌++◌, ◌+◌, ◌<◌, ◌∙◌, ◌≡◌, ◌≤◌}
+use Rattle.std.proofs.Common.{All, Bool, Err, List, MatchBool, Ok, Option, Some, [], ◌∷◌, ap, append_assoc, arith, inl, drop, if◌then◌else◌, length, length-append, length-drop, length-take, map, refl, subst, sym, take, take-append-drop, ℕ, ◌*◌, ◌++◌, ◌+◌, ◌<◌, ◌∙◌, ◌≡◌, ◌≤◌}
 use Rattle.prime_field.specs.Modulus.{value_of}
 use Rattle.word_region.specs.Board.{Board}
 use Rattle.basic_nodes.specs.Plain.{chained}
 use Rattle.basic_nodes.proofs.Pieces.{chained_residues}
 use Rattle.graph_file.specs.declared.graph.Graph.{Graph}
 use Rattle.graph_eval.specs.Learned.{FitsNode, listed_length, sets_of, size_at, sizes_of}
-use Rattle.graph_eval.specs.Memos.{AreKept, FitsFrame, kept_output}
+use Rattle.graph_eval.specs.Memos.{AreKept, kept_output}
 use Rattle.graph_eval.specs.Reading.{AreListed, HasLength, IsThere, placed, places_of}
-use Rattle.graph_eval.proofs.Calling.{called_err, called_more, called_none, called_ok, called_ready, called_stopped, front_both, inputs_fit, lists_same, part_chain, part_input, part_low, part_stands, parts_stand, run_behind_both, run_between}
+use Rattle.graph_eval.proofs.Calling.{behind_low, called_err, called_more, called_none, called_ok, called_ready, called_stopped, front_both, inputs_fit, lists_same, part_chain, part_input, part_low, part_stands, parts_stand, run_behind_both, run_between}
+use Rattle.graph_eval.specs.declared.expansion.Window.{Window}
+use Rattle.graph_eval.specs.declared.learned.GraphLearned.{GraphLearned}
+use Rattle.graph_eval.specs.Expanded.{IsWindow, expansion_inputs, orders_of, window_of}
+use Rattle.graph_eval.proofs.Columns.{value_of-wide}
+use Rattle.graph_eval.proofs.ExpandedCall.{call_room, room_left, expansions_err, expansions_low, expansions_ok, expansions_words, input_at, many_inputs}
+use Rattle.graph_eval.proofs.Quotients.{window_told}
+use Rattle.graph_eval.proofs.ShapeLaws.{has_window}
 use Rattle.graph_eval.proofs.Places.{index_at, read_at, stands}
 use Rattle.graph_eval.proofs.Writing.{parts_residues}
 use Rattle.std.specs.Prelude.{IfErr, OnOk, slice_get, slice_index, slice_index_or, slice_range}
 use Rattle.std.proofs.Math.Nat.{mul-le-mul_right}
 use Rattle.std.proofs.lemmas.List.{length-map}
-use Rattle.std.proofs.lemmas.List.Elements.{All-get_or, All-same, All-weaker}
+use Rattle.std.proofs.lemmas.List.Elements.{All-cons, All-get_or, All-same}
 use Rattle.graph_file.specs.declared.graph.Source.TheVariants as source
-use Rattle.graph_eval.specs.Stacked.{AreCalled, IsAdded, IsCalled}
+use Rattle.graph_eval.specs.Stacked.{AreCalled, IsAdded, IsCalled, IsExpandedCall}
 use Rattle.std.proofs.lemmas.Option.{slice_get-get_or, slice_get_within}
 use lib.Seq.{drop_at, take_at}
 use Rattle.prime_field.specs.declared.Modulus.{Modulus}
 use Rattle.prime_field.specs.Residue.{IsPrime}
 use Rattle.word_region.specs.Words.{written_at}
 use Rattle.word_region.proofs.Written.{length-written_at}
-use Rattle.graph_eval.specs.GraphValue.{GraphValue, NodeFails, SingularAt, meanings}
+use Rattle.graph_eval.specs.GraphValue.{GraphValue, IsNotExpanded, NodeFails, SingularAt, meanings}
 use Rattle.graph_eval.proofs.Memoing.{hit_called}
 use Rattle.graph_eval.proofs.Remembered.{remembered}
 use Rattle.graph_file.specs.declared.graph.Source.{Source}
-use Rattle.graph_eval.specs.Evaluated.{IsNeededAt, no_graphs}
+use Rattle.graph_eval.specs.Evaluated.{IsNeededAt}
 use Rattle.graph_eval.proofs.EvaluationLaws.{graph_value}
 use Rattle.graph_eval.proofs.Listed.{first_place, length-places, run_placed, run_there}
-use Rattle.graph_eval.proofs.Standing.{added_none, cut_places, fits_node, node_room, output_stands, pushed_room, pushed_there, ready_below, ready_inputs, replaced, stands_end, stands_listed, stands_low, stands_more, stands_none, stands_stop}
+use Rattle.graph_eval.proofs.Standing.{cut_places, fits_node, node_room, output_stands, pushed_room, pushed_there, ready_below, ready_inputs, replaced, stands_end, stands_listed, stands_low, stands_more, stands_none, stands_stop}
 use Rattle.graph_file.specs.Needed.{sources_of}
-use Rattle.graph_file.specs.Sound.{called_graph}
-use Rattle.graph_file.specs.declared.graph.NodeKind.TheVariants.{Call, Map, Memo}
+use Rattle.graph_file.specs.Sound.{IsKind, called_graph}
+use Rattle.graph_file.specs.declared.graph.NodeKind.TheVariants.{Call, Laurent, Map, Memo}
 use Rattle.graph_eval.specs.declared.shapes.GraphSize.{GraphSize}
-use Rattle.graph_eval.specs.Needs.{extra_of, node_extra, words_for}
-use Rattle.graph_eval.proofs.Adding.{added_alone, added_call, added_map, added_memo, failed_alone, failed_call, failed_map, failed_memo, size_known, told_fails, told_ruled}
-use Rattle.graph_eval.proofs.Room.{call_inputs, call_outputs, map_inputs, map_outputs}
+use Rattle.graph_eval.specs.Needs.{expansion_words, extra_of, node_extra, output_at, words_for}
+use Rattle.graph_eval.proofs.Adding.{added_alone, added_call, added_laurent, added_map, added_memo, failed_alone, failed_call, failed_laurent, failed_map, failed_memo, size_known, told_fails, told_ruled}
+use Rattle.graph_eval.proofs.Room.{call_inputs, call_outputs, laurent_inputs, laurent_outputs, map_inputs, map_outputs}
 use Rattle.graph_eval.specs.Systems.{AreEnoughFor}
 use Rattle.graph_eval.proofs.evaluation.+evaluation.Goals as goal
 
@@ -1467,7 +1474,7 @@ push_call-write_call-requires t c =
     let graph = stands graphs called (omega (arith, below, c.requires.there)) in
     let sizes = sizes_of graphs (take number learned) in
     let wanted = words_for graphs learned in
-    let extra : extra_of wanted node.kind ≡ wanted called = ap (extra_of wanted) kind in
+    let extra : extra_of wanted learned node.kind ≡ wanted called = ap (extra_of wanted learned) kind in
     let has : listed_length sizes (placed above places) c.requires.room.set (Call called parts) ≡ Some c.requires.room.own = ap (listed_length sizes (placed above places) c.requires.room.set) (sym kind) ∙ c.requires.room.ruled in (
       omega (arith, below),
       (
@@ -1533,7 +1540,7 @@ push_call-returns-in-Call-clause-ok t c =
     let graph = stands graphs called (omega (arith, below, c.requires.there)) in
     let sizes = sizes_of graphs (take number learned) in
     let wanted = words_for graphs learned in
-    let extra : extra_of wanted node.kind ≡ wanted called = ap (extra_of wanted) kind in
+    let extra : extra_of wanted learned node.kind ≡ wanted called = ap (extra_of wanted learned) kind in
     added_call m graphs learned number called (placed above places) node old c.write_call.new.stack.words below c.requires.needed parts shown shown_is (λ set own. listed_length sizes (placed above places) set node.kind ≡ Some own) c.cause_told.result c.write_call.result c.cause_told.ensures kind learnt.0 learnt.1 (λ set own ruled. call_outputs sizes above places set called parts own (ap (listed_length sizes (placed above places) set) (sym kind) ∙ ruled) ∙ ap (λ (s : GraphSize). s.outputs) (size_known graphs learned number called graph.0 learnt.0 below graph.1 learnt.1)) c.write_call.ensures.ok
 
 pub push_call-returns-in-Call-clause-err : goal.push_call-returns-in-Call-clause-err
@@ -1557,7 +1564,7 @@ push_call-returns-in-Call-clause-err t c =
     let graph = stands graphs called (omega (arith, below, c.requires.there)) in
     let sizes = sizes_of graphs (take number learned) in
     let wanted = words_for graphs learned in
-    let extra : extra_of wanted node.kind ≡ wanted called = ap (extra_of wanted) kind in
+    let extra : extra_of wanted learned node.kind ≡ wanted called = ap (extra_of wanted learned) kind in
     failed_call m graphs learned number called (placed above places) node old c.write_call.new.stack.words below c.requires.needed parts shown shown_is (λ set own. listed_length sizes (placed above places) set node.kind ≡ Some own) c.cause_told.result c.write_call.result c.cause_told.ensures kind c.write_call.ensures.err
 
 pub push_call-write_again-requires : goal.push_call-write_again-requires
@@ -1581,7 +1588,7 @@ push_call-write_again-requires t c =
     let graph = stands graphs called (omega (arith, below, c.requires.there)) in
     let sizes = sizes_of graphs (take number learned) in
     let wanted = words_for graphs learned in
-    let extra : extra_of wanted node.kind ≡ wanted called = ap (extra_of wanted) kind in
+    let extra : extra_of wanted learned node.kind ≡ wanted called = ap (extra_of wanted learned) kind in
     let has : listed_length sizes (placed above places) c.requires.room.set (Memo called parts) ≡ Some c.requires.room.own = ap (listed_length sizes (placed above places) c.requires.room.set) (sym kind) ∙ c.requires.room.ruled in (
       omega (arith, below),
       (
@@ -1647,7 +1654,7 @@ push_call-returns-in-Memo-clause-ok t c =
     let graph = stands graphs called (omega (arith, below, c.requires.there)) in
     let sizes = sizes_of graphs (take number learned) in
     let wanted = words_for graphs learned in
-    let extra : extra_of wanted node.kind ≡ wanted called = ap (extra_of wanted) kind in
+    let extra : extra_of wanted learned node.kind ≡ wanted called = ap (extra_of wanted learned) kind in
     added_memo m graphs learned number called (placed above places) node old c.write_again.new.stack.words below c.requires.needed parts shown shown_is (λ set own. listed_length sizes (placed above places) set node.kind ≡ Some own) c.cause_told-in-Memo.result c.write_again.result c.cause_told-in-Memo.ensures kind learnt.0 learnt.1 (λ set own ruled. call_outputs sizes above places set called parts own (ap (listed_length sizes (placed above places) set) (sym kind) ∙ ruled) ∙ ap (λ (s : GraphSize). s.outputs) (size_known graphs learned number called graph.0 learnt.0 below graph.1 learnt.1)) c.write_again.ensures.ok
 
 pub push_call-returns-in-Memo-clause-err : goal.push_call-returns-in-Memo-clause-err
@@ -1671,7 +1678,7 @@ push_call-returns-in-Memo-clause-err t c =
     let graph = stands graphs called (omega (arith, below, c.requires.there)) in
     let sizes = sizes_of graphs (take number learned) in
     let wanted = words_for graphs learned in
-    let extra : extra_of wanted node.kind ≡ wanted called = ap (extra_of wanted) kind in
+    let extra : extra_of wanted learned node.kind ≡ wanted called = ap (extra_of wanted learned) kind in
     failed_memo m graphs learned number called (placed above places) node old c.write_again.new.stack.words below c.requires.needed parts shown shown_is (λ set own. listed_length sizes (placed above places) set node.kind ≡ Some own) c.cause_told-in-Memo.result c.write_again.result c.cause_told-in-Memo.ensures kind c.write_again.ensures.err
 
 pub push_call-write_map-requires : goal.push_call-write_map-requires
@@ -1695,7 +1702,7 @@ push_call-write_map-requires t c =
     let graph = stands graphs called (omega (arith, below, c.requires.there)) in
     let sizes = sizes_of graphs (take number learned) in
     let wanted = words_for graphs learned in
-    let extra : extra_of wanted node.kind ≡ wanted called = ap (extra_of wanted) kind in
+    let extra : extra_of wanted learned node.kind ≡ wanted called = ap (extra_of wanted learned) kind in
     let has : listed_length sizes (placed above places) c.requires.room.set (Map called parts) ≡ Some c.requires.room.own = ap (listed_length sizes (placed above places) c.requires.room.set) (sym kind) ∙ c.requires.room.ruled in (
       omega (arith, below),
       (
@@ -1761,7 +1768,7 @@ push_call-returns-in-Map-clause-ok t c =
     let graph = stands graphs called (omega (arith, below, c.requires.there)) in
     let sizes = sizes_of graphs (take number learned) in
     let wanted = words_for graphs learned in
-    let extra : extra_of wanted node.kind ≡ wanted called = ap (extra_of wanted) kind in
+    let extra : extra_of wanted learned node.kind ≡ wanted called = ap (extra_of wanted learned) kind in
     added_map m graphs learned number called (placed above places) node old c.write_map.new.stack.words below c.requires.needed parts shown shown_is (λ set own. listed_length sizes (placed above places) set node.kind ≡ Some own) c.cause_told-in-Map.result c.write_map.result c.cause_told-in-Map.ensures kind learnt.0 learnt.1 (λ set own ruled. map_outputs sizes above places set called parts own (ap (listed_length sizes (placed above places) set) (sym kind) ∙ ruled) ∙ ap (λ n. length parts * n) (ap (λ (s : GraphSize). s.outputs) (size_known graphs learned number called graph.0 learnt.0 below graph.1 learnt.1))) c.write_map.ensures.ok
 
 pub push_call-returns-in-Map-clause-err : goal.push_call-returns-in-Map-clause-err
@@ -1785,7 +1792,7 @@ push_call-returns-in-Map-clause-err t c =
     let graph = stands graphs called (omega (arith, below, c.requires.there)) in
     let sizes = sizes_of graphs (take number learned) in
     let wanted = words_for graphs learned in
-    let extra : extra_of wanted node.kind ≡ wanted called = ap (extra_of wanted) kind in
+    let extra : extra_of wanted learned node.kind ≡ wanted called = ap (extra_of wanted learned) kind in
     failed_map m graphs learned number called (placed above places) node old c.write_map.new.stack.words below c.requires.needed parts shown shown_is (λ set own. listed_length sizes (placed above places) set node.kind ≡ Some own) c.cause_told-in-Map.result c.write_map.result c.cause_told-in-Map.ensures kind c.write_map.ensures.err
 
 pub push_node-push_call-requires : goal.push_node-push_call-requires
@@ -1808,7 +1815,7 @@ push_node-push_call-requires t c =
     let has_own = pushed_room sizes (slice_index places 0) place entry node above above places table c.requires.node c.requires.places c.requires.listed refl refl in
     let has : listed_length sizes (placed above table) set node.kind ≡ Some own = subst (λ (b : Bool). MatchBool b (listed_length sizes (placed above table) set node.kind ≡ Some own) (own ≡ 0)) c.if-not-node.false has_own in
     let wanted = words_for graphs learned in
-    let extra : node_extra wanted node ≡ extra_of wanted node.kind = ap (λ (b : Bool). if b then extra_of wanted node.kind else 0) c.if-not-node.false in (
+    let extra : node_extra wanted learned node ≡ extra_of wanted learned node.kind = ap (λ (b : Bool). if b then extra_of wanted learned node.kind else 0) c.if-not-node.false in (
       omega arith,
       (
         c.requires.sound,
@@ -1829,19 +1836,22 @@ push_node-push_call-requires t c =
                       (
                         omega (arith, c.requires.known),
                         (
-                          c.if-not-node.false,
+                          (slice_index places 0, place, c.requires.node.sound),
                           (
-                            rw c.if-not-calls.false at c.calls.ensures.yes,
+                            c.if-not-node.false,
                             (
-                              c.requires.calls,
+                              rw c.if-not-calls.false at c.calls.ensures.yes,
                               (
-                                c.requires.base,
+                                c.requires.calls,
                                 (
-                                  pushed_there sizes (slice_index places 0) place entry node above above places table c.requires.node c.requires.places c.requires.listed refl refl,
+                                  c.requires.base,
                                   (
-                                    c.requires.residues,
+                                    pushed_there sizes (slice_index places 0) place entry node above above places table c.requires.node c.requires.places c.requires.listed refl refl,
                                     (
-                                        record { set = set; own = own; ruled = has; room = omega (arith, extra, c.requires.room) }),
+                                      c.requires.residues,
+                                      (
+                                          record { set = set; own = own; ruled = has; room = omega (arith, extra, c.requires.room) }),
+                                    ),
                                   ),
                                 ),
                               ),
@@ -2019,3 +2029,602 @@ push_node-overflow_add-before t c =
 pub push_node-slice_bounds-before-end : goal.push_node-slice_bounds-before-end
 push_node-slice_bounds-before-end t c =
     omega (arith, c.requires.node.many_lengths, ap length c.requires.places, length-places (slice_index c.args.places.now 0) c.args.entry.now.lengths, length-take (c.args.place + 1) c.args.places.now)
+
+pub write_at-push-requires : goal.write_at-push-requires
+write_at-push-requires t c =
+    let graph = stands c.args.graphs.now c.args.called c.requires.called in
+    let entry = stands c.args.learned.now c.args.called c.requires.known in
+    omega (arith, c.requires.inputs graph.0 graph.1, inputs_fit c.args.graphs.now c.args.learned.now c.args.called graph.0 entry.0 graph.1 entry.1, c.requires.room)
+
+pub write_at-push_chain-requires-clause-base : goal.write_at-push_chain-requires-clause-base
+write_at-push_chain-requires-clause-base t c =
+    let m = value_of c.args.m in
+    let graphs = c.args.graphs.now in
+    let learned = c.args.learned.now in
+    let called = c.args.called in
+    let point = c.args.point in
+    let base = c.args.base in
+    let places = c.args.places.now in
+    let parts = c.args.parts.now in
+    let old = c.args.stack.now.words in
+    let above : List ℕ = drop base old in
+    let rest : List ℕ = chained (map (placed above places) parts) in
+    let pushed = c.push.new.self.words in
+    let pushed_is : pushed ≡ old ++ point ∷ [] = ap (λ (b : Board). b.words) c.push.ensures in
+    let lists = lists_same base old (point ∷ []) pushed places parts c.requires.base pushed_is c.requires.there in
+    omega (arith, ap length pushed_is, length-append old (point ∷ []), c.requires.base)
+
+pub write_at-push_chain-requires-clause-there : goal.write_at-push_chain-requires-clause-there
+write_at-push_chain-requires-clause-there t c =
+    let m = value_of c.args.m in
+    let graphs = c.args.graphs.now in
+    let learned = c.args.learned.now in
+    let called = c.args.called in
+    let point = c.args.point in
+    let base = c.args.base in
+    let places = c.args.places.now in
+    let parts = c.args.parts.now in
+    let old = c.args.stack.now.words in
+    let above : List ℕ = drop base old in
+    let rest : List ℕ = chained (map (placed above places) parts) in
+    let pushed = c.push.new.self.words in
+    let pushed_is : pushed ≡ old ++ point ∷ [] = ap (λ (b : Board). b.words) c.push.ensures in
+    let lists = lists_same base old (point ∷ []) pushed places parts c.requires.base pushed_is c.requires.there in
+    parts_stand base old (point ∷ []) pushed places parts c.requires.base pushed_is c.requires.there
+
+pub write_at-push_chain-requires-clause-count : goal.write_at-push_chain-requires-clause-count
+write_at-push_chain-requires-clause-count t c =
+    let m = value_of c.args.m in
+    let graphs = c.args.graphs.now in
+    let learned = c.args.learned.now in
+    let called = c.args.called in
+    let point = c.args.point in
+    let base = c.args.base in
+    let places = c.args.places.now in
+    let parts = c.args.parts.now in
+    let old = c.args.stack.now.words in
+    let above : List ℕ = drop base old in
+    let rest : List ℕ = chained (map (placed above places) parts) in
+    let pushed = c.push.new.self.words in
+    let pushed_is : pushed ≡ old ++ point ∷ [] = ap (λ (b : Board). b.words) c.push.ensures in
+    let lists = lists_same base old (point ∷ []) pushed places parts c.requires.base pushed_is c.requires.there in
+    let graph = c.index-graphs-called.result in
+    let is = read_at graphs graphs called graph refl c.requires.called c.index-graphs-called.is in
+    let count : c.len.result ≡ length graph.inputs = c.len.ensures ∙ ap (λ (g : Graph). length g.inputs) (sym c.index-graphs-called.is) in
+    omega (arith, count, c.requires.inputs graph is, ap (λ ls. length (chained ls)) lists)
+
+pub write_at-push_chain-requires-clause-room : goal.write_at-push_chain-requires-clause-room
+write_at-push_chain-requires-clause-room t c =
+    let m = value_of c.args.m in
+    let graphs = c.args.graphs.now in
+    let learned = c.args.learned.now in
+    let called = c.args.called in
+    let point = c.args.point in
+    let base = c.args.base in
+    let places = c.args.places.now in
+    let parts = c.args.parts.now in
+    let old = c.args.stack.now.words in
+    let above : List ℕ = drop base old in
+    let rest : List ℕ = chained (map (placed above places) parts) in
+    let pushed = c.push.new.self.words in
+    let pushed_is : pushed ≡ old ++ point ∷ [] = ap (λ (b : Board). b.words) c.push.ensures in
+    let lists = lists_same base old (point ∷ []) pushed places parts c.requires.base pushed_is c.requires.there in
+    let graph = c.index-graphs-called.result in
+    let is = read_at graphs graphs called graph refl c.requires.called c.index-graphs-called.is in
+    let entry = stands learned called c.requires.known in
+    let count : c.len.result ≡ length graph.inputs = c.len.ensures ∙ ap (λ (g : Graph). length g.inputs) (sym c.index-graphs-called.is) in
+    let size = ap (λ (b : Board). b.size) c.push.ensures in
+    omega (arith, count, size, ap length pushed_is, length-append old (point ∷ []), c.requires.inputs graph is, inputs_fit graphs learned called graph entry.0 is entry.1, c.requires.room)
+
+pub write_at-evaluate-requires : goal.write_at-evaluate-requires
+write_at-evaluate-requires t c =
+    let m = value_of c.args.m in
+    let graphs = c.args.graphs.now in
+    let learned = c.args.learned.now in
+    let called = c.args.called in
+    let point = c.args.point in
+    let base = c.args.base in
+    let places = c.args.places.now in
+    let parts = c.args.parts.now in
+    let old = c.args.stack.now.words in
+    let above : List ℕ = drop base old in
+    let rest : List ℕ = chained (map (placed above places) parts) in
+    let pushed = c.push.new.self.words in
+    let pushed_is : pushed ≡ old ++ point ∷ [] = ap (λ (b : Board). b.words) c.push.ensures in
+    let lists = lists_same base old (point ∷ []) pushed places parts c.requires.base pushed_is c.requires.there in
+    let middle = c.push_chain.new.stack in
+    let size = ap (λ (b : Board). b.size) c.push_chain.ensures ∙ ap (λ (b : Board). b.size) c.push.ensures in
+    let words_are : middle.words ≡ old ++ point ∷ rest =
+    ap (λ (b : Board). b.words) c.push_chain.ensures ∙ ap (λ ls. pushed ++ chained ls) lists ∙ ap (λ ws. ws ++ rest) pushed_is ∙ append_assoc old (point ∷ []) rest in (
+      omega arith,
+      (
+        c.requires.sound,
+        (
+          c.requires.earlier,
+          (
+            c.requires.fits,
+            (
+              c.requires.tables,
+              (
+                c.requires.work,
+                (
+                  c.requires.frames,
+                  (
+                    subst (AreKept graphs (sets_of learned) c.args.frames.now c.args.moduli.now) (sym (ap (λ (b : Board). b.kept) c.push_chain.ensures ∙ ap (λ (b : Board). b.kept) c.push.ensures)) c.requires.memos,
+                    (
+                      c.requires.called,
+                      (
+                        c.requires.known,
+                        (called_ready m graphs learned called c.len-top.result old (point ∷ rest) middle words_are (sym c.len-top.ensures)
+                            (λ graph is. let long = c.requires.inputs graph is in omega (arith, long)) (omega (arith, size, c.requires.room))
+                            (All-cons (λ x. x < m) point rest c.requires.point (chained_residues m (map (placed above places) parts) (parts_residues m above places (λ part. part) parts c.requires.residues)))),
+                      ),
+                    ),
+                  ),
+                ),
+              ),
+            ),
+          ),
+        ),
+      ),
+    )
+
+pub write_at-returns-clause-ok : goal.write_at-returns-clause-ok
+write_at-returns-clause-ok t c =
+    let m = value_of c.args.m in
+    let graphs = c.args.graphs.now in
+    let learned = c.args.learned.now in
+    let called = c.args.called in
+    let point = c.args.point in
+    let base = c.args.base in
+    let places = c.args.places.now in
+    let parts = c.args.parts.now in
+    let old = c.args.stack.now.words in
+    let above : List ℕ = drop base old in
+    let rest : List ℕ = chained (map (placed above places) parts) in
+    let pushed = c.push.new.self.words in
+    let pushed_is : pushed ≡ old ++ point ∷ [] = ap (λ (b : Board). b.words) c.push.ensures in
+    let lists = lists_same base old (point ∷ []) pushed places parts c.requires.base pushed_is c.requires.there in
+    let middle = c.push_chain.new.stack in
+    let size = ap (λ (b : Board). b.size) c.push_chain.ensures ∙ ap (λ (b : Board). b.size) c.push.ensures in
+    let words_are : middle.words ≡ old ++ point ∷ rest =
+    ap (λ (b : Board). b.words) c.push_chain.ensures ∙ ap (λ ls. pushed ++ chained ls) lists ∙ ap (λ ws. ws ++ rest) pushed_is ∙ append_assoc old (point ∷ []) rest in
+    called_ok m graphs learned called c.len-top.result old (point ∷ rest) middle words_are (sym c.len-top.ensures) c.evaluate.result c.evaluate.new.stack c.evaluate.ensures.ok
+
+pub write_at-returns-clause-err : goal.write_at-returns-clause-err
+write_at-returns-clause-err t c =
+    let m = value_of c.args.m in
+    let graphs = c.args.graphs.now in
+    let learned = c.args.learned.now in
+    let called = c.args.called in
+    let point = c.args.point in
+    let base = c.args.base in
+    let places = c.args.places.now in
+    let parts = c.args.parts.now in
+    let old = c.args.stack.now.words in
+    let above : List ℕ = drop base old in
+    let rest : List ℕ = chained (map (placed above places) parts) in
+    let pushed = c.push.new.self.words in
+    let pushed_is : pushed ≡ old ++ point ∷ [] = ap (λ (b : Board). b.words) c.push.ensures in
+    let lists = lists_same base old (point ∷ []) pushed places parts c.requires.base pushed_is c.requires.there in
+    let middle = c.push_chain.new.stack in
+    let size = ap (λ (b : Board). b.size) c.push_chain.ensures ∙ ap (λ (b : Board). b.size) c.push.ensures in
+    let words_are : middle.words ≡ old ++ point ∷ rest =
+    ap (λ (b : Board). b.words) c.push_chain.ensures ∙ ap (λ ls. pushed ++ chained ls) lists ∙ ap (λ ws. ws ++ rest) pushed_is ∙ append_assoc old (point ∷ []) rest in
+    called_err m graphs learned called c.len-top.result old (point ∷ rest) middle words_are (sym c.len-top.ensures) c.evaluate.result c.evaluate.ensures.err
+
+pub write_at-returns-clause-kept : goal.write_at-returns-clause-kept
+write_at-returns-clause-kept t c =
+    c.evaluate.ensures.kept ∙ ap length (ap (λ (b : Board). b.kept) c.push_chain.ensures ∙ ap (λ (b : Board). b.kept) c.push.ensures)
+
+pub write_expanded-loop-number-init : goal.write_expanded-loop-number-init
+write_expanded-loop-number-init t c =
+    record {
+      size = refl;
+      kept = refl;
+      memos = c.requires.memos;
+      called = called_none (value_of c.args.m) c.args.graphs.now c.args.learned.now c.args.called (expansion_inputs c.args.window (chained (map (placed (drop c.args.base c.args.stack.now.words) c.args.places.now) c.args.parts.now))) c.args.stack.now.words;
+    }
+
+pub write_expanded-point_at-requires : goal.write_expanded-point_at-requires
+write_expanded-point_at-requires t c =
+    omega (arith, c.loop-number-test.true, c.points-points.ensures, c.requires.window.num, c.requires.window.den)
+
+pub write_expanded-write_at-requires : goal.write_expanded-write_at-requires
+write_expanded-write_at-requires t c =
+    let m = value_of c.args.m in
+    let graphs = c.args.graphs.now in
+    let learned = c.args.learned.now in
+    let called = c.args.called in
+    let window = c.args.window in
+    let base = c.args.base in
+    let places = c.args.places.now in
+    let parts = c.args.parts.now in
+    let old = c.args.stack.now.words in
+    let above : List ℕ = drop base old in
+    let rest : List ℕ = chained (map (placed above places) parts) in
+    let k = c.loop-number.number in
+    let words = c.loop-number.stack.words in
+    let so_far = c.loop-number.invariant.called in
+    let more = chained so_far.outs in
+    let below : k < window.num + window.den + 3 = omega (arith, c.loop-number-test.true, c.points-points.ensures) in
+    let lists = lists_same base old more words places parts c.requires.base so_far.words c.requires.there in
+    let entry = stands learned called c.requires.known in
+    let long = so_far.long entry.0 entry.1 in
+    let product = mul-le-mul_right {m = k} {n = window.num + window.den + 3} entry.0.output (omega (arith, below)) in (
+      omega arith,
+      (
+        c.requires.sound,
+        (
+          c.requires.earlier,
+          (
+            c.requires.fits,
+            (
+              c.requires.tables,
+              (
+                subst (AreEnoughFor graphs) (let e : length c.args.work.now ≡ length c.loop-number.work = omega (arith, c.loop-number.auto.work) in e) c.requires.work,
+                (
+                  c.requires.frames,
+                  (
+                    c.loop-number.invariant.memos,
+                    (
+                      c.requires.called,
+                      (
+                        c.requires.known,
+                        (
+                          omega (arith, c.point_at.ensures, below, c.requires.window.num, c.requires.window.den, value_of-wide c.args.m),
+                          (
+                            omega (arith, ap length so_far.words, length-append old more, c.requires.base),
+                            (
+                              parts_stand base old more words places parts c.requires.base so_far.words c.requires.there,
+                              (
+                                λ graph is. ap (λ ls. length (chained ls) + 1) lists ∙ c.requires.inputs graph is,
+                                (
+                                  omega (arith, ap length so_far.words, length-append old more, c.requires.room entry.0 entry.1, c.loop-number.invariant.size),
+                                  (behind_low base old more words places parts c.requires.base so_far.words c.requires.there m c.requires.residues (chained_residues m so_far.outs so_far.low)),
+                                ),
+                              ),
+                            ),
+                          ),
+                        ),
+                      ),
+                    ),
+                  ),
+                ),
+              ),
+            ),
+          ),
+        ),
+      ),
+    )
+
+pub write_expanded-loop-number-preserved : goal.write_expanded-loop-number-preserved
+write_expanded-loop-number-preserved t c =
+    let m = value_of c.args.m in
+    let graphs = c.args.graphs.now in
+    let learned = c.args.learned.now in
+    let called = c.args.called in
+    let window = c.args.window in
+    let base = c.args.base in
+    let places = c.args.places.now in
+    let parts = c.args.parts.now in
+    let old = c.args.stack.now.words in
+    let above : List ℕ = drop base old in
+    let rest : List ℕ = chained (map (placed above places) parts) in
+    let k = c.loop-number.number in
+    let words = c.loop-number.stack.words in
+    let so_far = c.loop-number.invariant.called in
+    let more = chained so_far.outs in
+    let below : k < window.num + window.den + 3 = omega (arith, c.loop-number-test.true, c.points-points.ensures) in
+    let lists = lists_same base old more words places parts c.requires.base so_far.words c.requires.there in
+    let point = c.point_at.result in
+    let chain = point ∷ chained (map (placed (drop base words) places) parts) in
+    let low_ins : k < length (expansion_inputs window rest) = omega (arith, below, many_inputs window rest) in
+    let input : slice_index_or (expansion_inputs window rest) k [] ≡ chain =
+    input_at window rest k below ∙ ap (λ p. p ∷ rest) (sym c.point_at.ensures) ∙ ap (λ ls. point ∷ chained ls) (sym lists) in
+    record {
+      size = c.write_at.ensures.size ∙ c.loop-number.invariant.size;
+      kept = c.write_at.ensures.kept ∙ c.loop-number.invariant.kept;
+      memos = c.write_at.ensures.memos;
+      called = called_more m graphs learned called (expansion_inputs window rest) old k words chain so_far low_ins input c.write_at.new.stack.words c.in-Ok.ensures.ok;
+    }
+
+pub write_expanded-returns-in-Err-clause-err : goal.write_expanded-returns-in-Err-clause-err
+write_expanded-returns-in-Err-clause-err t c =
+    let m = value_of c.args.m in
+    let graphs = c.args.graphs.now in
+    let learned = c.args.learned.now in
+    let called = c.args.called in
+    let window = c.args.window in
+    let base = c.args.base in
+    let places = c.args.places.now in
+    let parts = c.args.parts.now in
+    let old = c.args.stack.now.words in
+    let above : List ℕ = drop base old in
+    let rest : List ℕ = chained (map (placed above places) parts) in
+    let k = c.loop-number.number in
+    let words = c.loop-number.stack.words in
+    let so_far = c.loop-number.invariant.called in
+    let more = chained so_far.outs in
+    let below : k < window.num + window.den + 3 = omega (arith, c.loop-number-test.true, c.points-points.ensures) in
+    let lists = lists_same base old more words places parts c.requires.base so_far.words c.requires.there in
+    let point = c.point_at.result in
+    let chain = point ∷ chained (map (placed (drop base words) places) parts) in
+    let low_ins : k < length (expansion_inputs window rest) = omega (arith, below, many_inputs window rest) in
+    let input : slice_index_or (expansion_inputs window rest) k [] ≡ chain =
+    input_at window rest k below ∙ ap (λ p. p ∷ rest) (sym c.point_at.ensures) ∙ ap (λ ls. point ∷ chained ls) (sym lists) in
+    λ prime. inl (called_stopped m graphs learned called (expansion_inputs window rest) old k words chain so_far low_ins input c.in-Err.singular c.in-Err.ensures.err prime)
+
+pub write_expanded-push_expansions-requires-clause-words : goal.write_expanded-push_expansions-requires-clause-words
+write_expanded-push_expansions-requires-clause-words t c =
+    let m = value_of c.args.m in
+    let graphs = c.args.graphs.now in
+    let learned = c.args.learned.now in
+    let called = c.args.called in
+    let window = c.args.window in
+    let base = c.args.base in
+    let places = c.args.places.now in
+    let parts = c.args.parts.now in
+    let old = c.args.stack.now.words in
+    let above : List ℕ = drop base old in
+    let rest : List ℕ = chained (map (placed above places) parts) in
+    let k = c.loop-number.number in
+    let words = c.loop-number.stack.words in
+    let so_far = c.loop-number.invariant.called in
+    let more = chained so_far.outs in
+    let entry = slice_index_or learned called c.index-learned-called.result in
+    let entry_is : slice_get learned called ≡ Some entry = read_at learned learned called c.index-learned-called.result refl c.requires.known c.index-learned-called.is ∙ ap (λ (e : GraphLearned). Some e) c.index-learned-called.is in
+    let all : k ≡ window.num + window.den + 3 = omega (arith, c.loop-number-test.false, c.loop-number.auto.number-end, c.points-points.ensures) in
+    let top = c.len-top.result in
+    let top_is : length old ≡ top = sym c.len-top.ensures in
+    expansions_words m graphs learned called window rest old words top k entry entry_is top_is all so_far
+
+pub write_expanded-push_expansions-requires-clause-residues : goal.write_expanded-push_expansions-requires-clause-residues
+write_expanded-push_expansions-requires-clause-residues t c =
+    let m = value_of c.args.m in
+    let graphs = c.args.graphs.now in
+    let learned = c.args.learned.now in
+    let called = c.args.called in
+    let window = c.args.window in
+    let base = c.args.base in
+    let places = c.args.places.now in
+    let parts = c.args.parts.now in
+    let old = c.args.stack.now.words in
+    let above : List ℕ = drop base old in
+    let rest : List ℕ = chained (map (placed above places) parts) in
+    let k = c.loop-number.number in
+    let words = c.loop-number.stack.words in
+    let so_far = c.loop-number.invariant.called in
+    let more = chained so_far.outs in
+    let entry = slice_index_or learned called c.index-learned-called.result in
+    let entry_is : slice_get learned called ≡ Some entry = read_at learned learned called c.index-learned-called.result refl c.requires.known c.index-learned-called.is ∙ ap (λ (e : GraphLearned). Some e) c.index-learned-called.is in
+    let all : k ≡ window.num + window.den + 3 = omega (arith, c.loop-number-test.false, c.loop-number.auto.number-end, c.points-points.ensures) in
+    let top = c.len-top.result in
+    let top_is : length old ≡ top = sym c.len-top.ensures in
+    expansions_low m graphs learned called window rest old words top k entry entry_is top_is all so_far
+
+pub write_expanded-push_expansions-requires-clause-room : goal.write_expanded-push_expansions-requires-clause-room
+write_expanded-push_expansions-requires-clause-room t c =
+    let m = value_of c.args.m in
+    let graphs = c.args.graphs.now in
+    let learned = c.args.learned.now in
+    let called = c.args.called in
+    let window = c.args.window in
+    let base = c.args.base in
+    let places = c.args.places.now in
+    let parts = c.args.parts.now in
+    let old = c.args.stack.now.words in
+    let above : List ℕ = drop base old in
+    let rest : List ℕ = chained (map (placed above places) parts) in
+    let k = c.loop-number.number in
+    let words = c.loop-number.stack.words in
+    let so_far = c.loop-number.invariant.called in
+    let more = chained so_far.outs in
+    let entry = slice_index_or learned called c.index-learned-called.result in
+    let entry_is : slice_get learned called ≡ Some entry = read_at learned learned called c.index-learned-called.result refl c.requires.known c.index-learned-called.is ∙ ap (λ (e : GraphLearned). Some e) c.index-learned-called.is in
+    let all : k ≡ window.num + window.den + 3 = omega (arith, c.loop-number-test.false, c.loop-number.auto.number-end, c.points-points.ensures) in
+    let top = c.len-top.result in
+    let top_is : length old ≡ top = sym c.len-top.ensures in
+    let long = so_far.long entry entry_is in
+    let product : k * entry.output ≡ (window.num + window.den + 3) * entry.output = ap (λ n. n * entry.output) all in
+    let words_are : length words ≡ length old + (window.num + window.den + 3) * entry.output = ap length so_far.words ∙ length-append old more ∙ ap (λ n. length old + n) (long ∙ product) in
+    room_left (length words) (length old) ((window.num + window.den + 3) * entry.output) (entry.output * orders_of window) (words_for graphs learned called) c.args.stack.now.size c.loop-number.stack.size words_are (c.requires.room entry entry_is) c.loop-number.invariant.size
+
+pub write_expanded-returns-clause-ok : goal.write_expanded-returns-clause-ok
+write_expanded-returns-clause-ok t c =
+    let m = value_of c.args.m in
+    let graphs = c.args.graphs.now in
+    let learned = c.args.learned.now in
+    let called = c.args.called in
+    let window = c.args.window in
+    let base = c.args.base in
+    let places = c.args.places.now in
+    let parts = c.args.parts.now in
+    let old = c.args.stack.now.words in
+    let above : List ℕ = drop base old in
+    let rest : List ℕ = chained (map (placed above places) parts) in
+    let k = c.loop-number.number in
+    let words = c.loop-number.stack.words in
+    let so_far = c.loop-number.invariant.called in
+    let more = chained so_far.outs in
+    let entry = slice_index_or learned called c.index-learned-called.result in
+    let entry_is : slice_get learned called ≡ Some entry = read_at learned learned called c.index-learned-called.result refl c.requires.known c.index-learned-called.is ∙ ap (λ (e : GraphLearned). Some e) c.index-learned-called.is in
+    let all : k ≡ window.num + window.den + 3 = omega (arith, c.loop-number-test.false, c.loop-number.auto.number-end, c.points-points.ensures) in
+    let top = c.len-top.result in
+    let top_is : length old ≡ top = sym c.len-top.ensures in
+    expansions_ok m graphs learned called window rest old words top k entry entry_is top_is all so_far c.push_expansions.result c.push_expansions.new.stack.words c.push_expansions.ensures.ok
+
+pub write_expanded-returns-clause-err : goal.write_expanded-returns-clause-err
+write_expanded-returns-clause-err t c =
+    let m = value_of c.args.m in
+    let graphs = c.args.graphs.now in
+    let learned = c.args.learned.now in
+    let called = c.args.called in
+    let window = c.args.window in
+    let base = c.args.base in
+    let places = c.args.places.now in
+    let parts = c.args.parts.now in
+    let old = c.args.stack.now.words in
+    let above : List ℕ = drop base old in
+    let rest : List ℕ = chained (map (placed above places) parts) in
+    let k = c.loop-number.number in
+    let words = c.loop-number.stack.words in
+    let so_far = c.loop-number.invariant.called in
+    let more = chained so_far.outs in
+    let entry = slice_index_or learned called c.index-learned-called.result in
+    let entry_is : slice_get learned called ≡ Some entry = read_at learned learned called c.index-learned-called.result refl c.requires.known c.index-learned-called.is ∙ ap (λ (e : GraphLearned). Some e) c.index-learned-called.is in
+    let all : k ≡ window.num + window.den + 3 = omega (arith, c.loop-number-test.false, c.loop-number.auto.number-end, c.points-points.ensures) in
+    let top = c.len-top.result in
+    let top_is : length old ≡ top = sym c.len-top.ensures in
+    expansions_err m graphs learned called window rest old words top k entry entry_is top_is all so_far c.push_expansions.result c.push_expansions.ensures.err
+
+pub write_expanded-returns-clause-kept : goal.write_expanded-returns-clause-kept
+write_expanded-returns-clause-kept t c =
+    ap length c.push_expansions.ensures.kept ∙ c.loop-number.invariant.kept
+
+pub write_expanded-returns-clause-memos : goal.write_expanded-returns-clause-memos
+write_expanded-returns-clause-memos t c =
+    subst (AreKept c.args.graphs.now (sets_of c.args.learned.now) c.args.frames.now c.loop-number.moduli) (sym c.push_expansions.ensures.kept) c.loop-number.invariant.memos
+
+pub push_call-write_expanded-requires : goal.push_call-write_expanded-requires
+push_call-write_expanded-requires t c =
+    let m = value_of c.args.m in
+    let graphs = c.args.graphs.now in
+    let learned = c.args.learned.now in
+    let number = c.args.number in
+    let node = c.args.node.now in
+    let places = c.args.places.now in
+    let base = c.args.base in
+    let old = c.args.stack.now.words in
+    let above : List ℕ = drop base old in
+    let called = c.in-Laurent.graph in
+    let lo = c.in-Laurent.lo in
+    let hi = c.in-Laurent.hi in
+    let num = c.in-Laurent.num in
+    let den = c.in-Laurent.den in
+    let parts = c.in-Laurent.parts in
+    let shown = c.as_slice-in-Laurent.result.now in
+    let shown_is : shown ≡ parts = c.as_slice-in-Laurent.ensures in
+    let kind : node.kind ≡ Laurent called lo hi num den parts = c.in-Laurent.is in
+    let below : called < number = c.requires.calls called (ap called_graph kind) in
+    let learnt = stands learned called (omega (arith, below, c.requires.known)) in
+    let graph = stands graphs called (omega (arith, below, c.requires.there)) in
+    let sizes = sizes_of graphs (take number learned) in
+    let sound = subst (IsKind c.requires.kind.0 c.requires.kind.1) kind c.requires.kind.2 in
+    let window = c.window_of.result in
+    let window_is : window ≡ window_of lo hi num den = c.window_of.ensures ∙ window_told lo hi num den sound.lowest sound.ordered sound.highest in
+    let wanted = words_for graphs learned in
+    let extra : extra_of wanted learned node.kind ≡ wanted called + expansion_words (num + den + 3) (output_at (slice_get learned called)) = ap (extra_of wanted learned) kind in
+    let has : listed_length sizes (placed above places) c.requires.room.set (Laurent called lo hi num den parts) ≡ Some c.requires.room.own = ap (listed_length sizes (placed above places) c.requires.room.set) (sym kind) ∙ c.requires.room.ruled in (
+      omega (arith, below),
+      (
+        c.requires.sound,
+        (
+          c.requires.earlier,
+          (
+            c.requires.fits,
+            (
+              c.requires.tables,
+              (
+                c.requires.work,
+                (
+                  c.requires.frames,
+                  (
+                    c.requires.memos,
+                    (
+                      omega (arith, below, c.requires.there),
+                      (
+                        omega (arith, below, c.requires.known),
+                        (
+                          subst IsWindow (sym window_is) (has_window c.requires.kind.0 c.requires.kind.1 (Laurent called lo hi num den parts) sound),
+                          (
+                            c.requires.base,
+                            (
+                              All-same (IsThere above places) _ _ (shown_is ∙ ap sources_of (sym kind)) c.requires.lists,
+                              (
+                                λ g at. ap (λ ps. length (chained (map (placed above places) ps)) + 1) shown_is ∙ laurent_inputs sizes above places c.requires.room.set called lo hi num den parts c.requires.room.own has ∙ ap (λ (s : GraphSize). s.inputs) (size_known graphs learned number called g learnt.0 below at learnt.1),
+                                (
+                                  λ e at.
+                                      let outputs : (size_at sizes called).outputs ≡ e.output = ap (λ (s : GraphSize). s.outputs) (size_known graphs learned number called graph.0 e below graph.1 at) in
+                                      let orders : orders_of window ≡ orders_of (window_of lo hi num den) = ap orders_of window_is in
+                                      let own : c.requires.room.own ≡ e.output * orders_of window = laurent_outputs sizes above places c.requires.room.set called lo hi num den parts c.requires.room.own has ∙ ap (λ n. n * orders_of (window_of lo hi num den)) outputs ∙ ap (λ n. e.output * n) (sym orders) in
+                                      let points : (window.num + window.den + 3) * e.output ≡ (num + den + 3) * e.output = ap (λ (w : Window). (w.num + w.den + 3) * e.output) window_is in
+                                      let product : (num + den + 3) * output_at (slice_get learned called) ≡ (num + den + 3) * e.output = ap (λ (o : Option GraphLearned). (num + den + 3) * output_at o) at in
+                                      call_room (length old) c.requires.room.own (e.output * orders_of window) (extra_of wanted learned node.kind) (wanted called) (12 * (num + den + 3 + 2)) ((num + den + 3) * output_at (slice_get learned called)) ((window.num + window.den + 3) * e.output) c.args.stack.now.size own extra (product ∙ sym points) c.requires.room.room,
+                                  (c.requires.residues),
+                                ),
+                              ),
+                            ),
+                          ),
+                        ),
+                      ),
+                    ),
+                  ),
+                ),
+              ),
+            ),
+          ),
+        ),
+      ),
+    )
+
+pub push_call-returns-in-Laurent-clause-ok : goal.push_call-returns-in-Laurent-clause-ok
+push_call-returns-in-Laurent-clause-ok t c =
+    let m = value_of c.args.m in
+    let graphs = c.args.graphs.now in
+    let learned = c.args.learned.now in
+    let number = c.args.number in
+    let node = c.args.node.now in
+    let places = c.args.places.now in
+    let base = c.args.base in
+    let old = c.args.stack.now.words in
+    let above : List ℕ = drop base old in
+    let called = c.in-Laurent.graph in
+    let lo = c.in-Laurent.lo in
+    let hi = c.in-Laurent.hi in
+    let num = c.in-Laurent.num in
+    let den = c.in-Laurent.den in
+    let parts = c.in-Laurent.parts in
+    let shown = c.as_slice-in-Laurent.result.now in
+    let shown_is : shown ≡ parts = c.as_slice-in-Laurent.ensures in
+    let kind : node.kind ≡ Laurent called lo hi num den parts = c.in-Laurent.is in
+    let below : called < number = c.requires.calls called (ap called_graph kind) in
+    let learnt = stands learned called (omega (arith, below, c.requires.known)) in
+    let graph = stands graphs called (omega (arith, below, c.requires.there)) in
+    let sizes = sizes_of graphs (take number learned) in
+    let sound = subst (IsKind c.requires.kind.0 c.requires.kind.1) kind c.requires.kind.2 in
+    let window = c.window_of.result in
+    let window_is : window ≡ window_of lo hi num den = c.window_of.ensures ∙ window_told lo hi num den sound.lowest sound.ordered sound.highest in
+    added_laurent m graphs learned number called (placed above places) node old c.write_expanded.new.stack.words below c.requires.needed parts shown shown_is (λ set own. listed_length sizes (placed above places) set node.kind ≡ Some own) lo hi num den c.write_expanded.result kind learnt.0 learnt.1
+    (λ set own ruled. laurent_outputs sizes above places set called lo hi num den parts own (ap (listed_length sizes (placed above places) set) (sym kind) ∙ ruled) ∙ ap (λ n. n * orders_of (window_of lo hi num den)) (ap (λ (s : GraphSize). s.outputs) (size_known graphs learned number called graph.0 learnt.0 below graph.1 learnt.1)))
+    (subst (λ (w : Window). OnOk c.write_expanded.result (IsExpandedCall m graphs learned called w (chained (map (placed above places) shown)) old c.write_expanded.new.stack.words)) window_is c.write_expanded.ensures.ok)
+
+pub push_call-returns-in-Laurent-clause-err : goal.push_call-returns-in-Laurent-clause-err
+push_call-returns-in-Laurent-clause-err t c =
+    let m = value_of c.args.m in
+    let graphs = c.args.graphs.now in
+    let learned = c.args.learned.now in
+    let number = c.args.number in
+    let node = c.args.node.now in
+    let places = c.args.places.now in
+    let base = c.args.base in
+    let old = c.args.stack.now.words in
+    let above : List ℕ = drop base old in
+    let called = c.in-Laurent.graph in
+    let lo = c.in-Laurent.lo in
+    let hi = c.in-Laurent.hi in
+    let num = c.in-Laurent.num in
+    let den = c.in-Laurent.den in
+    let parts = c.in-Laurent.parts in
+    let shown = c.as_slice-in-Laurent.result.now in
+    let shown_is : shown ≡ parts = c.as_slice-in-Laurent.ensures in
+    let kind : node.kind ≡ Laurent called lo hi num den parts = c.in-Laurent.is in
+    let below : called < number = c.requires.calls called (ap called_graph kind) in
+    let learnt = stands learned called (omega (arith, below, c.requires.known)) in
+    let graph = stands graphs called (omega (arith, below, c.requires.there)) in
+    let sizes = sizes_of graphs (take number learned) in
+    let sound = subst (IsKind c.requires.kind.0 c.requires.kind.1) kind c.requires.kind.2 in
+    let window = c.window_of.result in
+    let window_is : window ≡ window_of lo hi num den = c.window_of.ensures ∙ window_told lo hi num den sound.lowest sound.ordered sound.highest in
+    failed_laurent m graphs learned number called (placed above places) node old c.write_expanded.new.stack.words below c.requires.needed parts shown shown_is (λ set own. listed_length sizes (placed above places) set node.kind ≡ Some own) lo hi num den c.write_expanded.result kind
+    (subst (λ (w : Window). IfErr c.write_expanded.result (λ cause. IsPrime m → IsNotExpanded m w (GraphValue m graphs (sets_of learned) called) (chained (map (placed above places) shown)) cause)) window_is c.write_expanded.ensures.err)

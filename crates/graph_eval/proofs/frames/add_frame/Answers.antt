@@ -1,8 +1,6 @@
 -- One memo more, or none.
-use Rattle.std.proofs.Common.{◌≡◌, ℕ, ◌+◌, ◌*◌, ◌<◌, ◌≤◌, length, refl, sym, ◌∙◌, ap, subst, arith}
-use Rattle.graph_eval.proofs.Places.{read_at}
-use Rattle.graph_eval.specs.Memos.{AreFrames}
-use Rattle.graph_eval.proofs.Framed.{frames_longer, frames_more}
+use Rattle.std.proofs.Common.{arith}
+use Rattle.graph_eval.proofs.Framed.{frames_more}
 use Rattle.graph_eval.proofs.frames.add_frame.Goals as goal
 
 pub returns-clause-frames : goal.returns-clause-frames

@@ -1,7 +1,6 @@
 -- One node more.
-use Rattle.std.proofs.Common.{◌≡◌, ℕ, ◌+◌, ◌*◌, ◌<◌, ◌≤◌, length, refl, sym, ◌∙◌, ap, subst, arith}
+use Rattle.std.proofs.Common.{length, ap, arith}
 use Rattle.graph_eval.proofs.Places.{read_at}
-use Rattle.graph_eval.specs.Memos.{AreFrames}
 use Rattle.graph_eval.proofs.Framed.{nodes_drop, nodes_past}
 use Rattle.graph_eval.proofs.frames.add_frames.Goals as goal
 

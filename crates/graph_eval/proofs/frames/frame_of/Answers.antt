@@ -1,12 +1,12 @@
 -- A memo keeps the inputs and the output of an earlier graph.
-use Rattle.std.proofs.Common.{◌≡◌, ℕ, ◌+◌, ◌<◌, ◌≤◌, Bool, if◌then◌else◌, Some, length, refl, sym, ◌∙◌, ap, subst, arith}
+use Rattle.std.proofs.Common.{◌≡◌, ◌+◌, Bool, if◌then◌else◌, length, ◌∙◌, ap, arith}
 use Rattle.std.specs.Prelude.{slice_get}
 use Rattle.std.proofs.lemmas.Option.{get_or_from_slice_get}
 use Rattle.graph_file.specs.Sound.{called_graph}
 use Rattle.graph_file.specs.declared.graph.Graph.{Graph}
 use Rattle.graph_eval.specs.declared.learned.GraphLearned.{GraphLearned}
 use Rattle.graph_eval.specs.Needs.{inputs_at, kept_of, node_kept, output_at}
-use Rattle.graph_eval.proofs.Places.{read_at, stands}
+use Rattle.graph_eval.proofs.Places.{stands}
 use Rattle.graph_eval.proofs.frames.frame_of.Goals as goal
 
 pub bounds-graphs-graph : goal.bounds-graphs-graph

@@ -1,9 +1,9 @@
 -- One graph more.
-use Rattle.std.proofs.Common.{◌≡◌, ℕ, ◌+◌, ◌*◌, ◌<◌, ◌≤◌, length, refl, sym, ◌∙◌, ap, subst, arith}
+use Rattle.std.proofs.Common.{refl, sym, subst, arith}
 use Rattle.graph_eval.proofs.Places.{read_at}
 use Rattle.graph_eval.specs.Memos.{AreFrames}
 use Rattle.graph_eval.specs.declared.memos.MemoFrame.{MemoFrame}
-use Rattle.std.proofs.Common.{List, []}
+use Rattle.std.proofs.Common.{List}
 use Rattle.graph_eval.proofs.Framed.{frames_none, graphs_drop, graphs_past}
 use Rattle.graph_eval.proofs.frames.frames_of.Goals as goal
 

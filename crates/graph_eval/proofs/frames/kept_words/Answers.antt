@@ -1,5 +1,5 @@
 -- One graph more.
-use Rattle.std.proofs.Common.{◌≡◌, ℕ, ◌+◌, ◌*◌, ◌<◌, ◌≤◌, length, refl, sym, ◌∙◌, ap, subst, arith}
+use Rattle.std.proofs.Common.{refl, arith}
 use Rattle.graph_eval.proofs.Places.{read_at}
 use Rattle.graph_eval.proofs.Framed.{graphs_drop, graphs_past}
 use Rattle.graph_eval.proofs.frames.kept_words.Goals as goal

@@ -1,5 +1,5 @@
 -- Each node is learned on the lists, lengths and sets before it.
-use Rattle.std.proofs.Common.{◌≡◌, ℕ, ◌<◌, List, [], ◌∷◌, ◌++◌, length, refl, sym, ◌∙◌, ap, subst, arith}
+use Rattle.std.proofs.Common.{◌≡◌, ℕ, List, [], ◌∷◌, ◌++◌, length, refl, sym, ◌∙◌, ap, subst, arith}
 use Rattle.prime_field.specs.Modulus.{value_of}
 use Rattle.prime_field.specs.Residue.{IsPrime}
 use Rattle.graph_file.specs.Sound.{IsKind}

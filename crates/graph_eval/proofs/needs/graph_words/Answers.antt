@@ -6,10 +6,10 @@ use Rattle.graph_eval.proofs.needs.graph_words.Goals as goal
 
 pub overflow_add-result-2 : goal.overflow_add-result-2
 overflow_add-result-2 c =
-    let most = greatest_extra_bound (slice_index c.args.words.now) 1152921504606846976 (omega arith) c.requires.bound c.args.graph.now c.requires.sound in
-    omega (arith, c.len.ensures, c.requires.sound.few, c.total_of.ensures.bound, c.greatest_extra.ensures, most)
+    let most = greatest_extra_bound (slice_index c.args.words.now) c.args.learned.now 1152921504606846976 (omega arith) c.requires.bound c.requires.outputs c.args.graph.now c.requires.sound in
+    omega (arith, c.len.ensures, c.requires.sound.few, c.total_of-own.ensures.bound, c.greatest_extra.ensures, most)
 
 pub returns-clause-bound : goal.returns-clause-bound
 returns-clause-bound c = λ limit large each.
-    let most = greatest_extra_bound (slice_index c.args.words.now) limit large each c.args.graph.now c.requires.sound in
-    omega (arith, c.len.ensures, c.requires.sound.few, c.total_of.ensures.bound, c.greatest_extra.ensures, most)
+    let most = greatest_extra_bound (slice_index c.args.words.now) c.args.learned.now limit large each c.requires.outputs c.args.graph.now c.requires.sound in
+    omega (arith, c.len.ensures, c.requires.sound.few, c.total_of-own.ensures.bound, c.greatest_extra.ensures, most)

@@ -1,11 +1,10 @@
 -- The main graph is the last of which something was learned.
-use Rattle.std.proofs.Common.{◌≡◌, ℕ, ◌-◌, ◌<◌, ◌≤◌, List, length, refl, sym, ◌∙◌, ap, subst, arith}
-use Rattle.std.specs.Prelude.{slice_index}
+use Rattle.std.proofs.Common.{◌-◌, List, length, sym, ◌∙◌, ap, subst, arith}
 use Rattle.graph_file.specs.declared.graph.Graph.{Graph}
 use Rattle.graph_eval.specs.declared.learned.GraphLearned.{GraphLearned}
 use Rattle.graph_eval.specs.GraphValue.{main_number}
-use Rattle.graph_eval.specs.Learned.{AreGraphs, CallEarlier, FitsFirst}
-use Rattle.graph_eval.specs.Needs.{words_below, words_for}
+use Rattle.graph_eval.specs.Learned.{AreGraphs, CallEarlier}
+use Rattle.graph_eval.specs.Needs.{words_below}
 use Rattle.graph_eval.proofs.Fitting.{fits_known}
 use Rattle.graph_eval.proofs.Wanted.{words_earlier}
 use Rattle.graph_eval.proofs.needs.main_words.Goals as goal

@@ -2,7 +2,6 @@
 use Rattle.std.proofs.Common.{length, refl, sym, ◌∙◌, ap, arith}
 use Rattle.graph_file.specs.declared.graph.Graph.{Graph}
 use Rattle.graph_eval.specs.Reading.{places_of}
-use Rattle.graph_eval.specs.declared.learned.GraphLearned.{GraphLearned}
 use Rattle.graph_eval.proofs.Places.{read_at}
 use Rattle.graph_eval.proofs.Tables.{tables_all, tables_more}
 use Rattle.graph_eval.proofs.needs.tables_of.Goals as goal

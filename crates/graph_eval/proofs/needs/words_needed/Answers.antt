@@ -1,9 +1,6 @@
 -- Each graph of a job is sound and calls earlier ones.
-use Rattle.std.proofs.Common.{◌≡◌, ◌≤◌, length, sym, ◌∙◌, ap, subst, arith}
-use Rattle.graph_file.specs.declared.graph.Graph.{Graph}
-use Rattle.graph_eval.specs.declared.learned.GraphLearned.{GraphLearned}
+use Rattle.std.proofs.Common.{sym, subst}
 use Rattle.graph_eval.specs.Learned.{AreGraphs, CallEarlier}
-use Rattle.graph_eval.specs.Needs.{kept_words}
 use Rattle.graph_eval.proofs.needs.words_needed.Goals as goal
 
 pub kept_words-requires-clause-sound : goal.kept_words-requires-clause-sound

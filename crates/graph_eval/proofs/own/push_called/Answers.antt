@@ -1,30 +1,32 @@
 -- The graph is evaluated on a stack that holds the lists so far, and what it gives is taken from its top.
-use Rattle.std.proofs.Common.{◌≡◌, ℕ, ◌+◌, ◌<◌, ◌≤◌, List, [], ◌++◌, All, Result, Ok, Err, Some, None, length, take, drop, refl, sym, ◌∙◌, ap, subst, length-append, arith}
-use Rattle.std.specs.Prelude.{IfErr, OnOk, slice_index}
+use Rattle.std.proofs.Common.{◌≡◌, ℕ, ◌<◌, List, ◌++◌, All, Some, length, take, drop, sym, ◌∙◌, ap, subst, length-append, arith}
+use Rattle.std.specs.Prelude.{slice_index}
 use Rattle.std.proofs.Math.Path.{fun_ext}
 use Rattle.std.proofs.lemmas.List.{take_rest}
 use Rattle.std.proofs.lemmas.List.Elements.{All-same}
 use lib.Seq.{take_all}
 use Rattle.prime_field.specs.Modulus.{value_of}
-use Rattle.prime_field.specs.Residue.{IsPrime}
 use Rattle.word_region.specs.Board.{Board}
 use Rattle.graph_file.specs.Needed.{sources_of}
 use Rattle.graph_eval.specs.declared.learned.GraphLearned.{GraphLearned}
 use Rattle.graph_eval.specs.GraphValue.{NodeFails, meanings}
 use Rattle.graph_eval.specs.Learned.{listed_length, sets_of, sizes_of}
-use Rattle.graph_eval.specs.Memos.{AreKept, FitFrames}
 use Rattle.graph_eval.specs.Needs.{extra_of, words_below, words_for}
 use Rattle.graph_eval.specs.Reading.{IsThere, placed}
-use Rattle.graph_eval.specs.Stacked.{HasCallRoom, IsAdded}
+use Rattle.graph_eval.specs.Stacked.{IsAdded}
 use Rattle.graph_eval.proofs.Adding.{added_behind}
 use Rattle.graph_eval.proofs.Remembered.{no_memos}
-use Rattle.graph_eval.proofs.ShapeLaws.{few_unknowns}
-use Rattle.graph_eval.proofs.Wanted.{extra_bound, extra_same}
+use Rattle.graph_eval.proofs.ShapeLaws.{few_unknowns, has_window}
+use Rattle.graph_eval.proofs.Wanted.{extra_bound, extra_same, outputs_low}
 use Rattle.graph_eval.proofs.own.push_called.Goals as goal
 
 pub extra_of-extra-requires-clause-few : goal.extra_of-extra-requires-clause-few
 extra_of-extra-requires-clause-few c =
     few_unknowns c.requires.kind.0 c.requires.kind.1 c.args.node.now.kind c.requires.kind.2
+
+pub extra_of-extra-requires-clause-window : goal.extra_of-extra-requires-clause-window
+extra_of-extra-requires-clause-window c =
+    has_window c.requires.kind.0 c.requires.kind.1 c.args.node.now.kind c.requires.kind.2
 
 pub extra_of-extra-requires-clause-there : goal.extra_of-extra-requires-clause-there
 extra_of-extra-requires-clause-there c =
@@ -32,12 +34,12 @@ extra_of-extra-requires-clause-there c =
 
 pub overflow_add-size : goal.overflow_add-size
 overflow_add-size c =
-    let bound = extra_bound (slice_index c.args.wanted.now) 1152921504606846976 (omega arith) c.requires.bound c.requires.kind.0 c.requires.kind.1 c.args.node.now.kind c.requires.kind.2 in
+    let bound = extra_bound (slice_index c.args.wanted.now) c.args.learned.now 1152921504606846976 (omega arith) c.requires.bound (outputs_low c.args.graphs.now c.args.learned.now c.requires.sound_graphs c.requires.fits (omega (arith, c.requires.within))) c.requires.kind.0 c.requires.kind.1 c.args.node.now.kind c.requires.kind.2 in
     omega (arith, bound, c.extra_of-extra.ensures, c.len-len.ensures, c.args.words.now.ok, c.requires.count)
 
 pub overflow_add-size-2 : goal.overflow_add-size-2
 overflow_add-size-2 c =
-    let bound = extra_bound (slice_index c.args.wanted.now) 1152921504606846976 (omega arith) c.requires.bound c.requires.kind.0 c.requires.kind.1 c.args.node.now.kind c.requires.kind.2 in
+    let bound = extra_bound (slice_index c.args.wanted.now) c.args.learned.now 1152921504606846976 (omega arith) c.requires.bound (outputs_low c.args.graphs.now c.args.learned.now c.requires.sound_graphs c.requires.fits (omega (arith, c.requires.within))) c.requires.kind.0 c.requires.kind.1 c.args.node.now.kind c.requires.kind.2 in
     omega (arith, bound, c.extra_of-extra.ensures, c.len-len.ensures, c.args.words.now.ok, c.requires.count)
 
 pub push-requires : goal.push-requires
@@ -97,7 +99,7 @@ push_call-requires-clause-room c =
     let stands : stack.words ≡ words = ap (λ (b : Board). b.words) c.push.ensures ∙ ap (λ ws. ws ++ c.as_slice.result.now) (ap (λ (b : Board). b.words) c.in_ok-stack.ensures) ∙ c.as_slice.ensures.value in
     let all : take (length learned) learned ≡ learned = take_all (length learned) learned (omega arith) in
     let wanted : slice_index c.args.wanted.now ≡ words_below graphs learned (length learned) = fun_ext c.requires.wanted in
-    let extra : c.extra_of-extra.result ≡ extra_of (words_for graphs learned) node.kind = c.extra_of-extra.ensures ∙ ap (λ (w : ℕ → ℕ). extra_of w node.kind) wanted ∙ sym (extra_same graphs learned (length learned) node.kind c.requires.calls) in
+    let extra : c.extra_of-extra.result ≡ extra_of (words_for graphs learned) learned node.kind = c.extra_of-extra.ensures ∙ ap (λ (w : ℕ → ℕ). extra_of w learned node.kind) wanted ∙ sym (extra_same graphs learned (length learned) node.kind c.requires.calls) in
     let size = ap (λ (b : Board). b.size) c.push.ensures ∙ ap (λ (b : Board). b.size) c.in_ok-stack.ensures in
     record {
       set = c.requires.room.0;

@@ -4,4 +4,4 @@ use Rattle.graph_file.proofs.faults.are_new.Given as goal
 
 -- the names before the index are new, and those from it on are new where all are
 abbrev pub invariant-loop-name : goal.invariant-loop-name
-invariant-loop-name l = (spec.are_new [] l.names ≡ spec.are_new l.before.names (drop l.name-index l.names)) × (length l.before.names ≡ l.name-index)
+invariant-loop-name l = (spec.are_new [] l.names ≡ spec.are_new l.before (drop l.name-index l.names)) × (length l.before ≡ l.name-index)

@@ -10,7 +10,7 @@ depth_over-requires-clause-low c = λ k depth at. c.requires.read.depths_are.low
 pub returns : goal.returns
 returns c = λ earlier read. ap (λ d. nat_le d 8) (
     c.depth_over.ensures
-    ∙ ap (λ n. depth_over (take n c.args.reader.now.graph_names.names) c.as_slice-depths.result.now (called_by c.args.statement.now)) c.len.ensures
+    ∙ ap (λ n. depth_over (take n c.args.reader.now.graph_names) c.as_slice-depths.result.now (called_by c.args.statement.now)) c.len.ensures
     ∙ ap (λ (ds : List ℕ). depth_over (earlier_graphs c.args.reader.now) ds (called_by c.args.statement.now)) (c.as_slice-depths.ensures.value ∙ read.depths_are.are)
     ∙ ap (λ (gs : List (List ℕ)). depth_over gs (depths_in earlier) (called_by c.args.statement.now)) (graphs-kept earlier c.args.reader.now read)
     )

@@ -6,4 +6,4 @@ use Rattle.graph_file.proofs.kind.sources_named.Given as goal
 
 -- the lists so far, with those from the index on
 abbrev pub invariant-loop-list : goal.invariant-loop-list
-invariant-loop-list l = all_of (map (source_named l.nodes.names) l.lists) ≡ onto l.sources (all_of (map (source_named l.nodes.names) (drop l.list-index l.lists)))
+invariant-loop-list l = all_of (map (source_named l.nodes) l.lists) ≡ onto l.sources (all_of (map (source_named l.nodes) (drop l.list-index l.lists)))

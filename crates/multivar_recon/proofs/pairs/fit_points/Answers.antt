@@ -4,9 +4,9 @@ use Rattle.prime_field.specs.Modulus.{value_of}
 use Rattle.prime_field.specs.Residue.{IsPrime}
 use Rattle.prime_field.proofs.Moduli.{value_of-large}
 use Rattle.poly_maps.specs.Polynomial.{coefficient}
-use Rattle.multivar_recon.specs.Covering.{ListsMonomials, monomial_count}
+use Rattle.ray_grid.specs.Covering.{ListsMonomials, monomial_count}
 use Rattle.multivar_recon.specs.Vectors.{num_of, den_of, IsLeastVector, IsForced, NoneAgrees}
-use Rattle.multivar_recon.proofs.Counted.{listed_few}
+use Rattle.ray_grid.proofs.Counted.{listed_few}
 use Rattle.multivar_recon.proofs.Listed.{front_of, back_of}
 use Rattle.multivar_recon.proofs.PairVectors.{least_pair, no_pair, forced}
 use Rattle.multivar_recon.proofs.pairs.fit_points.Goals as goal

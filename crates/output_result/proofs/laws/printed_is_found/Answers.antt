@@ -1,4 +1,4 @@
-use Rattle.output_result.proofs.Told.{printed_found}
+use Rattle.output_result.proofs.Lines.{printed_found}
 use Rattle.output_result.proofs.laws.printed_is_found.Goals as goal
 
 pub returns : goal.returns

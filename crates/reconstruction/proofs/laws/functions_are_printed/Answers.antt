@@ -24,7 +24,7 @@ returns-clause-quotients c =
       printed_is_found = c.printed_is_found.ensures;
       found_is_printed = c.found_is_printed.ensures;
     } in
-    λ bytes form learned results prime asked found. quotients laws (functions_of form learned) (bound_of (grid_of form)) (sound forms bytes form learned asked) prime results found
+    λ bytes form learned reports results prime asked found. quotients laws (functions_of form learned) (bound_of (grid_of form)) (sound forms bytes form learned asked) prime reports results found
 
 pub returns-clause-unique : goal.returns-clause-unique
 returns-clause-unique c =
@@ -43,7 +43,7 @@ returns-clause-unique c =
       printed_is_found = c.printed_is_found.ensures;
       found_is_printed = c.found_is_printed.ensures;
     } in
-    λ bytes form learned results asked found. unique laws (functions_of form learned) (bound_of (grid_of form)) (sound forms bytes form learned asked) results found
+    λ bytes form learned reports results asked found. unique laws (functions_of form learned) (bound_of (grid_of form)) (sound forms bytes form learned asked) reports results found
 
 pub returns-clause-taken : goal.returns-clause-taken
 returns-clause-taken c =
@@ -62,7 +62,7 @@ returns-clause-taken c =
       printed_is_found = c.printed_is_found.ensures;
       found_is_printed = c.found_is_printed.ensures;
     } in
-    λ bytes form learned results asked found. attempts laws (functions_of form learned) (bound_of (grid_of form)) (sound forms bytes form learned asked) results found
+    λ bytes form learned reports results asked found. attempts laws (functions_of form learned) (bound_of (grid_of form)) (sound forms bytes form learned asked) reports results found
 
 pub returns-clause-found : goal.returns-clause-found
 returns-clause-found c =

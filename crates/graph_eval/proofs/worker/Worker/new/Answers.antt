@@ -1,5 +1,5 @@
 -- Each graph of a job is sound and calls earlier ones, and the memos have their places among the kept words.
-use Rattle.std.proofs.Common.{◌≡◌, ℕ, ◌+◌, ◌-◌, ◌≤◌, List, None, length, replicate, refl, sym, ◌∙◌, ap, subst, arith}
+use Rattle.std.proofs.Common.{◌≡◌, ℕ, ◌-◌, List, None, length, replicate, sym, ◌∙◌, ap, subst, arith}
 use Rattle.graph_file.specs.declared.graph.Graph.{Graph}
 use Rattle.graph_eval.specs.declared.learned.GraphLearned.{GraphLearned}
 use Rattle.std.specs.Prelude.{vec_len}

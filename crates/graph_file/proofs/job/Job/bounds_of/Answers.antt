@@ -1,6 +1,6 @@
 use Rattle.std.proofs.Common.{◌∙◌, sym, ap, subst}
 use Rattle.ray_grid.specs.Grid.{bound_of}
-use Rattle.multivar_recon.specs.Covering.{Covers}
+use Rattle.ray_grid.specs.Covering.{Covers}
 use Rattle.graph_file.specs.Bounded.{AreBounds, main_variables}
 use Rattle.graph_file.specs.Bounding.{bounds_among, bounds_given, grid_with, widest}
 use Rattle.graph_file.proofs.BoundLemmas.{at-are, at-covered}

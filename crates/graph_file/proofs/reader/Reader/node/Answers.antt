@@ -1,8 +1,6 @@
-use Rattle.std.proofs.Common.{◌≡◌, ◌∙◌, ℕ, ◌++◌, ◌∷◌, [], ◌≤◌, List, Some, ap, refl, sym, subst, take, bytes_eq}
-use Rattle.std.specs.List.{list_any}
+use Rattle.std.proofs.Common.{◌≡◌, ◌∙◌, ℕ, ◌++◌, ◌∷◌, [], ◌≤◌, List, Some, ap, refl, sym, subst, take}
 use Rattle.std.proofs.lemmas.List.{map-append}
 use Rattle.graph_file.specs.declared.graph.Node.{Node as NodeOf}
-use Rattle.graph_file.specs.declared.table.Table.{Table}
 use Rattle.graph_file.specs.Needed.{kinds_of}
 use Rattle.graph_file.specs.Says.{kind_of}
 use Rattle.graph_file.proofs.KindLemmas.{IsOf, kind_is_of}
@@ -15,26 +13,19 @@ use Rattle.graph_file.proofs.GraphLemmas.{AreBehind-kept}
 use Rattle.graph_file.proofs.reader.Reader.node.Goals as goal
 
 pub unreachable-requires : goal.unreachable-requires
-unreachable-requires c = node-there c.args.self.now c.args.name c.args.statement.now c.requires.passes c.args.exprs (ap (λ n. kind_of (take n c.args.self.now.graph_names.names) c.args.self.now.table.names c.args.exprs c.args.statement.now) (sym c.len-count.ensures) ∙ sym c.in_ok-kind.ensures ∙ c.in_default.is)
+unreachable-requires c = node-there c.args.self.now c.args.name c.args.statement.now c.requires.passes c.args.exprs (ap (λ n. kind_of (take n c.args.self.now.graph_names) c.args.self.now.table c.args.exprs c.args.statement.now) (sym c.len-count.ensures) ∙ sym c.in_ok-kind.ensures ∙ c.in_default.is)
 
-pub with-requires : goal.with-requires
-with-requires c =
-    ap (λ l. list_any (λ other. bytes_eq other l) c.replace-before.result.names) c.bytes.ensures
-    ∙ ap (λ (t : Table). list_any (λ other. bytes_eq other c.args.name) t.names) c.replace-before.ensures.value
-    ∙ node-new c.args.self.now c.args.name c.args.statement.now c.requires.passes
+pub add-requires : goal.add-requires
+add-requires c = node-new c.args.self.now c.args.name c.args.statement.now c.requires.passes
 
 pub returns : goal.returns
 returns c =
-    let is : kind_of (earlier_graphs c.args.self.now) c.args.self.now.table.names c.args.exprs c.args.statement.now ≡ Some c.in-Some.kind = ap (λ n. kind_of (take n c.args.self.now.graph_names.names) c.args.self.now.table.names c.args.exprs c.args.statement.now) (sym c.len-count.ensures) ∙ sym c.in_ok-kind.ensures ∙ c.in-Some.is in
-    let of : IsOf c.args.statement.now c.in-Some.kind = kind_is_of (earlier_graphs c.args.self.now) c.args.self.now.table.names c.args.exprs c.args.statement.now c.in-Some.kind is in
-    let names : c.in_ok-table.table.names ≡ c.args.self.now.table.names ++ c.args.name ∷ [] =
-    c.in_ok-table.ensures
-    ∙ ap (λ l. c.replace-before.result.names ++ l ∷ []) c.bytes.ensures
-    ∙ ap (λ (t : Table). t.names ++ c.args.name ∷ []) c.replace-before.ensures.value
-    in
+    let is : kind_of (earlier_graphs c.args.self.now) c.args.self.now.table c.args.exprs c.args.statement.now ≡ Some c.in-Some.kind = ap (λ n. kind_of (take n c.args.self.now.graph_names) c.args.self.now.table c.args.exprs c.args.statement.now) (sym c.len-count.ensures) ∙ sym c.in_ok-kind.ensures ∙ c.in-Some.is in
+    let of : IsOf c.args.statement.now c.in-Some.kind = kind_is_of (earlier_graphs c.args.self.now) c.args.self.now.table c.args.exprs c.args.statement.now c.in-Some.kind is in
+    let names : c.add.new.self ≡ c.args.self.now.table ++ c.args.name ∷ [] = c.in_ok-add.ensures in
     let depth_is : c.depth_over-depth.result ≡ depth_over (earlier_graphs c.args.self.now) c.args.self.now.depths.items (called_by c.args.statement.now) =
     c.depth_over-depth.ensures
-    ∙ ap (λ n. depth_over (take n c.args.self.now.graph_names.names) c.as_slice.result.now (called_by c.args.statement.now)) c.len-count.ensures
+    ∙ ap (λ n. depth_over (take n c.args.self.now.graph_names) c.as_slice.result.now (called_by c.args.statement.now)) c.len-count.ensures
     ∙ ap (λ ds. depth_over (earlier_graphs c.args.self.now) ds (called_by c.args.statement.now)) c.as_slice.ensures.value
     in
     let low : c.depth_over-depth.result ≤ 8 = subst (λ d. d ≤ 8) (sym depth_is) (node-shallow c.args.self.now c.args.name c.args.statement.now c.requires.passes) in
@@ -54,5 +45,5 @@ returns c =
       special_are = read.special_are;
       coeff_is = read.coeff_is;
       widest_is = read.widest_is;
-      sound = node-fits c.args.self.now c.args.name c.args.statement.now c.args.exprs c.in-Some.kind c.stood_after-self.result c.in_ok-table.table.names c.push.new.self.items c.unknowns_of-self.result c.requires.formed c.requires.passes is c.requires.trees c.requires.arguments c.stood_after-self.ensures names c.in_ok-push.ensures.items c.unknowns_of-self.ensures;
+      sound = node-fits c.args.self.now c.args.name c.args.statement.now c.args.exprs c.in-Some.kind c.stood_after-self.result c.add.new.self c.push.new.self.items c.unknowns_of-self.result c.requires.formed c.requires.passes is c.requires.trees c.requires.arguments c.stood_after-self.ensures names c.in_ok-push.ensures.items c.unknowns_of-self.ensures;
     }

@@ -11,7 +11,7 @@ unreachable-requires c = output-there c.args.self.now c.args.list.now c.requires
 
 pub returns : goal.returns
 returns c =
-    let is : source_named c.args.self.now.table.names c.args.list.now ≡ Some c.in-Some.output = sym c.source_named-output.ensures ∙ c.in-Some.is in
+    let is : source_named c.args.self.now.table c.args.list.now ≡ Some c.in-Some.output = sym c.source_named-output.ensures ∙ c.in-Some.is in
     λ earlier read. record {
       last_is = refl;
       depths_are = record { are = read.depths_are.are; low = read.depths_are.low };

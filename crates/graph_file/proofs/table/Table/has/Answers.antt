@@ -1,6 +1,10 @@
-use Rattle.std.proofs.Common.{◌∙◌, ap, is_some, bytes_eq}
-use Rattle.graph_file.proofs.TableLemmas.{is_some-position}
+use Rattle.std.proofs.Common.{◌∙◌, ap, bytes_eq}
+use Rattle.std.specs.List.{list_any}
+use Rattle.graph_file.proofs.TableLemmas.{any-flipped}
 use Rattle.graph_file.proofs.table.Table.has.Goals as goal
 
 pub returns : goal.returns
-returns c = c.is_some.ensures ∙ ap is_some c.number.ensures.value ∙ is_some-position (λ other. bytes_eq other c.args.name.now) c.args.self.now.names
+returns c =
+    c.contains.ensures
+    ∙ any-flipped c.args.name.now c.self.inside.names.keys
+    ∙ ap (list_any (λ other. bytes_eq other c.args.name.now)) c.self.view_is

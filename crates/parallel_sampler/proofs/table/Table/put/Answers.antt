@@ -6,7 +6,7 @@ use Rattle.prime_field.specs.Modulus.{value_of}
 use Rattle.graph_eval.specs.Evaluated.{outcome_of}
 use Rattle.graph_eval.specs.GraphValue.{Outcome, main_number}
 use Rattle.graph_eval.specs.Learned.{outputs_of}
-use Rattle.parallel_sampler.specs.declared.table.Row.{Row}
+use Rattle.parallel_sampler.specs.declared.row.Row.{Row}
 use Rattle.parallel_sampler.specs.Filled.{Filling, IsMainValue, kept_row}
 use Rattle.parallel_sampler.proofs.Filling.{puts_row}
 use Rattle.parallel_sampler.proofs.Tables.{fits_row}

@@ -1,5 +1,0 @@
-use Rattle.multivar_recon.proofs.Counted.{count_listed}
-use Rattle.multivar_recon.proofs.laws.count_is_length.Goals as goal
-
-pub returns : goal.returns
-returns c b variables es eight few lists = count_listed b variables es eight few lists
