@@ -29,6 +29,16 @@ pub fn by_first(n: u128) -> u64
     narrow_by_first((n >> 61) + (n & 0x1fff_ffff_ffff_ffff))
 }
 
+/// The remainder by 2^61 - 1 of a sum of four products of two residues.
+pub fn few_by_first(n: u128) -> u64
+    requires { n < 4 * (2305843009213693951 * 2305843009213693951) }
+    ensures { result ≡ n % 2305843009213693951 }
+{
+    let wide = (n >> 61) as u64 + (n & 0x1fff_ffff_ffff_ffff) as u64;
+    let sum = (wide >> 61) + (wide & 0x1fff_ffff_ffff_ffff);
+    if sum < FIRST { sum } else { sum - FIRST }
+}
+
 /// The remainder by 2^63 - 25.
 pub fn by_second(n: u128) -> u64
     ensures { result ≡ n % 9223372036854775783 }

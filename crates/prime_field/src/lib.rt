@@ -10,7 +10,10 @@ ghost use Rattle.prime_field.specs.Residue.{IsUnit, IsPrime, inverse};
 ghost use Rattle.prime_field.specs.Sequence.{word};
 
 mod batch;
+mod field;
 mod fold;
+
+pub use field::{ByFirst, BySecond, Field};
 
 /// A modulus: a number that residues are taken by.
 ///
@@ -269,6 +272,24 @@ mod tests {
         assert_eq!(rt; second.reduce_i128(i128::MIN), 9223372036854774533);
         assert_eq!(rt; first.reduce_i128(-1), 2305843009213693950);
         assert_eq!(rt; second.reduce_i128(i128::MAX), 1249);
+    }
+
+    #[test]
+    fn sums_of_products_by_each_modulus(rt: HostRuntime) {
+        let first = 2305843009213693950_u128 * 2305843009213693950;
+        let second = 9223372036854775782_u128 * 9223372036854775782;
+        assert_eq!(rt; ByFirst.fold(4 * first), 4);
+        assert_eq!(rt; BySecond.fold(4 * second), 4);
+        assert_eq!(rt; ByFirst.add(ByFirst.value() - 1, 1), 0);
+        assert_eq!(rt; BySecond.add(BySecond.value() - 1, 2), 1);
+        assert_eq!(rt;
+            ByFirst.mul(1234567890123456789, 987654321098765432),
+            960075274131157676
+        );
+        assert_eq!(rt;
+            BySecond.mul(1234567890123456789, 987654321098765432),
+            3736267369219444229
+        );
     }
 
     #[test]
