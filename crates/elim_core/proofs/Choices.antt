@@ -3,17 +3,17 @@ use Rattle.std.proofs.Common.{◌≡◌, ◌≢◌, ℕ, zero, suc, ◌+◌, ◌
 use Rattle.std.proofs.Math.ListN.{set, length-set}
 use Rattle.std.specs.Bool.{OnTrue, OnFalse}
 use Rattle.std.proofs.Math.Nat.{mod-eq_of_lt}
-use Rattle.std.proofs.lemmas.Bool.{cases_eq, eq-eqb, ne_eqb, eqb-true, or_cases, or_left, or_right}
+use Rattle.std.proofs.lemmas.Bool.{cases_eq, eq-eqb, eqb-true, or_cases, or_left, or_right}
 use Rattle.prime_field.specs.Residue.{IsPrime}
 use Rattle.prime_field.specs.Sum.{sum_to}
 use Rattle.prime_field.proofs.Sums.{sum-pick}
-use Rattle.elim_core.specs.Rows.{Meets, AllMet, AreResidues, put, IsChoice, Tells, chosen_value, Fixes, IsDecided}
-use Rattle.elim_core.specs.Layout.{entry, IsLaidOut, IsRow, IsSpan, IsCleared, KeepsUsed, IsNewRow, IsSameRow, IsNoRow}
+use Rattle.elim_core.specs.Rows.{Meets, AllMet, AreResidues, put, IsChoice, Tells, Fixes, IsDecided}
+use Rattle.elim_core.specs.Layout.{entry, IsLaidOut, IsRow, IsSpan, IsCleared, KeepsUsed, HasZeros, IsNewRow, IsSameRow, IsNoRow}
 use Rattle.elim_core.specs.Solver.{has_number, IsAscending, AreUnknowns}
 use Rattle.elim_core.proofs.Systems.{put-same, put-other}
 use Rattle.elim_core.proofs.Echelon.{determined, free_differ}
 use Rattle.elim_core.proofs.Entries.{entry-empty, entry-own, entry-same, laid_out_form}
-use Rattle.elim_core.proofs.Told.{told, told-low, told-own, told_solves, one_for_choice}
+use Rattle.elim_core.proofs.Told.{told, told-low, told-own, told_solves, one_for_choice, put-low}
 
 -- the row that asks for a value of one unknown
 module _ (m u : ℕ) (row : List ℕ) (place value : ℕ) (large : 1 < m) (clear : IsCleared u row) (low : place < u) (value_low : value < 2) where
@@ -102,41 +102,28 @@ index-has_number [] i n low is = absurd (omega arith)
 index-has_number (x ∷ xs) zero n low is = or_left _ _ (eq-eqb x n is)
 index-has_number (x ∷ xs) (suc i) n low is = or_right _ _ (index-has_number xs i n (omega arith) is)
 
-pub chosen_value-low : (chosen number : ℕ) → chosen_value chosen number < 2
-chosen_value-low chosen number =
-    elim (cases_eq number chosen) [
-      | inl same ↦ rw (eq-eqb number chosen same) (omega arith)
-      | inr other ↦ rw (ne_eqb number chosen other) (omega arith)
-    ]
+-- rows that were kept beside others that were kept beside earlier ones
+pub keeps_more : (u : ℕ) (old_rows old_ends rows ends rows' ends' : List ℕ) → KeepsUsed u old_rows old_ends rows ends → KeepsUsed u rows ends rows' ends' → KeepsUsed u old_rows old_ends rows' ends'
+keeps_more u old_rows old_ends rows ends rows' ends' first then = record {
+  same_end = λ j low some.
+      let before = first.same_end j low some in
+      then.same_end j low (λ none. some (sym before ∙ none)) ∙ before;
+  same_row = λ j k low k_low some.
+      let before = first.same_end j low some in
+      then.same_row j k low k_low (λ none. some (sym before ∙ none)) ∙ first.same_row j k low k_low some;
+}
 
--- the rows once the unknowns before place `at` of the set have their values
-pub record ChosenSoFar (m u : ℕ) (old_rows old_ends rows ends row set : List ℕ) (chosen at : ℕ) : Type 0 where
-  pub laid_out : IsLaidOut m u rows ends
-  pub keeps_used : KeepsUsed u old_rows old_ends rows ends
-  pub cleared : IsCleared u row
-  pub met : (z : ℕ → ℕ) → AreResidues m u z → (AllMet m u (entry u rows ends) z ↔
-      (AllMet m u (entry u old_rows old_ends) z × ((i : ℕ) → i < at → z (get_or set i 0 - 1) ≡ chosen_value chosen (get_or set i 0))))
-
-pub Chosen-start : (m u : ℕ) (rows ends row set : List ℕ) (chosen : ℕ) → IsLaidOut m u rows ends → IsCleared u row → ChosenSoFar m u rows ends rows ends row set chosen 0
-Chosen-start m u rows ends row set chosen laid clear = record {
+pub Zeros-start : (m u : ℕ) (rows ends set : List ℕ) → IsLaidOut m u rows ends → HasZeros m u rows ends rows ends set 0
+Zeros-start m u rows ends set laid = record {
   laid_out = laid;
   keeps_used = record { same_end = λ j low some. refl; same_row = λ j k low k_low some. refl };
-  cleared = clear;
   met = λ z z_low. (λ met. (met, λ i low. absurd (omega arith)), λ both. both.0);
 }
 
-pub Chosen-more : (m u : ℕ) (old_rows old_ends rows ends row rows' ends' row' set : List ℕ) (chosen at : ℕ) → ChosenSoFar m u old_rows old_ends rows ends row set chosen at → IsLaidOut m u rows' ends' → KeepsUsed u rows ends rows' ends' → IsCleared u row' → (v : ℕ) → v ≡ chosen_value chosen (get_or set at 0) → Fixes m u (entry u rows ends) (entry u rows' ends') (get_or set at 0 - 1) v → ChosenSoFar m u old_rows old_ends rows' ends' row' set chosen (at + 1)
-Chosen-more m u old_rows old_ends rows ends row rows' ends' row' set chosen at s laid keeps clear v v_is fixed = record {
+pub Zeros-more : (m u : ℕ) (old_rows old_ends rows ends rows' ends' set : List ℕ) (at : ℕ) → HasZeros m u old_rows old_ends rows ends set at → IsLaidOut m u rows' ends' → KeepsUsed u rows ends rows' ends' → Fixes m u (entry u rows ends) (entry u rows' ends') (get_or set at 0 - 1) 0 → HasZeros m u old_rows old_ends rows' ends' set (at + 1)
+Zeros-more m u old_rows old_ends rows ends rows' ends' set at s laid keeps fixed = record {
   laid_out = laid;
-  keeps_used = record {
-    same_end = λ j low some.
-        let before = s.keeps_used.same_end j low some in
-        keeps.same_end j low (λ none. some (sym before ∙ none)) ∙ before;
-    same_row = λ j k low k_low some.
-        let before = s.keeps_used.same_end j low some in
-        keeps.same_row j k low k_low (λ none. some (sym before ∙ none)) ∙ s.keeps_used.same_row j k low k_low some;
-  };
-  cleared = clear;
+  keeps_used = keeps_more u old_rows old_ends rows ends rows' ends' s.keeps_used keeps;
   met = λ z z_low. (
     λ now_met.
         let both = (fixed z z_low).0 now_met in
@@ -144,15 +131,15 @@ Chosen-more m u old_rows old_ends rows ends row rows' ends' row' set chosen at s
           earlier.0,
           λ i low.
               elim (cases_eq i at) [
-                | inl same ↦ subst (λ (x : ℕ). z (get_or set x 0 - 1) ≡ chosen_value chosen (get_or set x 0)) (sym same) (both.1 ∙ v_is)
+                | inl same ↦ subst (λ (x : ℕ). z (get_or set x 0 - 1) ≡ 0) (sym same) both.1
                 | inr other ↦ earlier.1 i (omega arith)
               ],
         ),
-    λ all. (fixed z z_low).1 ((s.met z z_low).1 (all.0, λ i low. all.1 i (omega arith)), all.1 at (omega arith) ∙ sym v_is),
+    λ all. (fixed z z_low).1 ((s.met z z_low).1 (all.0, λ i low. all.1 i (omega arith)), all.1 at (omega arith)),
   );
 }
 
-module _ (m u : ℕ) (old_rows old_ends rows ends row set : List ℕ) (chosen at : ℕ) (large : 1 < m) (ascending : IsAscending set) (numbers : AreUnknowns u set) (s : ChosenSoFar m u old_rows old_ends rows ends row set chosen at)
+module _ (m u : ℕ) (old_rows old_ends rows ends set : List ℕ) (at : ℕ) (large : 1 < m) (ascending : IsAscending set) (numbers : AreUnknowns u set) (s : HasZeros m u old_rows old_ends rows ends set at)
     (c : ℕ → ℕ → ℕ) (d : ℕ → ℕ) (tells : Tells m u (AllMet m u (entry u old_rows old_ends)) (λ k. has_number set (k + 1)) c d) where
   at_has : (i : ℕ) → i < length set → has_number set (get_or set i 0 - 1 + 1) ≡ true
   at_has i low = index-has_number set i (get_or set i 0 - 1 + 1) low (omega (arith, (numbers i low).0))
@@ -160,57 +147,40 @@ module _ (m u : ℕ) (old_rows old_ends rows ends row set : List ℕ) (chosen at
   place_low : (i : ℕ) → i < length set → get_or set i 0 - 1 < u
   place_low i low = omega (arith, (numbers i low).0, (numbers i low).1)
 
-  -- what is told by a choice that is right so far solves the rows so far
-  told_so_far : (v : ℕ → ℕ) → AreResidues m u v → ((i : ℕ) → i < at → i < length set → v (get_or set i 0 - 1) ≡ chosen_value chosen (get_or set i 0)) → at ≤ length set → AllMet m u (entry u rows ends) (told m u (AllMet m u (entry u old_rows old_ends)) (λ k. has_number set (k + 1)) c d large tells v)
-  told_so_far v v_low right within =
+  -- what is told by a choice with zeros so far solves the rows so far
+  told_so_far : (v : ℕ → ℕ) → AreResidues m u v → ((i : ℕ) → i < at → i < length set → v (get_or set i 0 - 1) ≡ 0) → at ≤ length set → AllMet m u (entry u rows ends) (told m u (AllMet m u (entry u old_rows old_ends)) (λ k. has_number set (k + 1)) c d large tells v)
+  told_so_far v v_low none within =
       (s.met (told m u (AllMet m u (entry u old_rows old_ends)) (λ k. has_number set (k + 1)) c d large tells v)
       (told-low m u (AllMet m u (entry u old_rows old_ends)) (λ k. has_number set (k + 1)) c d large tells v)).1 (
         told_solves m u (AllMet m u (entry u old_rows old_ends)) (λ k. has_number set (k + 1)) c d large tells v v_low,
         λ i low.
             told-own m u (AllMet m u (entry u old_rows old_ends)) (λ k. has_number set (k + 1)) c d large tells v v_low
             (get_or set i 0 - 1) (place_low i (omega arith)) (at_has i (omega arith)) ∙
-            right i low (omega arith),
+            none i low (omega arith),
       )
 
-  value_at : ℕ → ℕ
-  value_at k = chosen_value chosen (k + 1)
-
-  value_at-low : AreResidues m u value_at
-  unfolding value_at
-  value_at-low k low = omega (arith, chosen_value-low chosen (k + 1))
-
-  value_at-right : (i : ℕ) → i < length set → value_at (get_or set i 0 - 1) ≡ chosen_value chosen (get_or set i 0)
-  unfolding value_at
-  value_at-right i low = ap (chosen_value chosen) (omega (arith, (numbers i low).0))
+  -- with a value for the next unknown of the set
+  told_next : (v : ℕ) → v < 2 → at < length set → AllMet m u (entry u rows ends) (told m u (AllMet m u (entry u old_rows old_ends)) (λ k. has_number set (k + 1)) c d large tells (put (get_or set at 0 - 1) v (λ k. 0)))
+  told_next v v_low low =
+      told_so_far (put (get_or set at 0 - 1) v (λ k. 0)) (put-low m u (get_or set at 0 - 1) v (omega arith)) (λ i i_low i_in.
+      let order = ascending i at i_low low in
+      let apart : get_or set i 0 - 1 ≢ get_or set at 0 - 1 = omega (arith, order, (numbers i i_in).0) in
+      put-other (get_or set at 0 - 1) (get_or set i 0 - 1) v (λ k. 0) apart) (omega arith)
 
   -- so the next unknown of the set isn't decided
-  pub undecided : at < length set → (value : ℕ) → value ≡ chosen_value chosen (get_or set at 0) → IsDecided m u (entry u rows ends) (get_or set at 0 - 1) value → ⊥
-  undecided low value value_is decided =
+  pub undecided : at < length set → (value : ℕ) → value < 2 → IsDecided m u (entry u rows ends) (get_or set at 0 - 1) value → ⊥
+  undecided low value value_low decided =
       let p = get_or set at 0 - 1 in
-      let v = value_at in
-      let w = put p (1 - v p) v in
-      let w_low : AreResidues m u w = λ k k_low.
-      elim (cases_eq k p) [
-        | inl same ↦ subst (λ (x : ℕ). x < m) (sym (put-same p (1 - v p) v) ∙ ap w (sym same)) (omega arith)
-        | inr other ↦ subst (λ (x : ℕ). x < m) (sym (put-other p k (1 - v p) v other)) (value_at-low k k_low)
-      ] in
       let T = told m u (AllMet m u (entry u old_rows old_ends)) (λ k. has_number set (k + 1)) c d large tells in
       let low_T = told-low m u (AllMet m u (entry u old_rows old_ends)) (λ k. has_number set (k + 1)) c d large tells in
-      let own_T = told-own m u (AllMet m u (entry u old_rows old_ends)) (λ k. has_number set (k + 1)) c d large tells in
-      let y_is : T v p ≡ chosen_value chosen (get_or set at 0) =
-      own_T v value_at-low p (place_low at low) (at_has at low) ∙ value_at-right at low in
-      let z_is : T w p ≡ 1 - v p =
-      own_T w w_low p (place_low at low) (at_has at low) ∙ put-same p (1 - v p) v in
-      let two : chosen_value chosen (get_or set at 0) < 2 = chosen_value-low chosen (get_or set at 0) in
-      let same_v : v p ≡ chosen_value chosen (get_or set at 0) = value_at-right at low in
-      decided (T v) (T w) (low_T v) (low_T w)
-      (told_so_far v value_at-low (λ i i_low i_in. value_at-right i i_in) (omega arith))
-      (told_so_far w w_low (λ i i_low i_in.
-      let order = ascending i at i_low low in
-      let apart : get_or set i 0 - 1 ≢ p = omega (arith, order, (numbers i i_in).0) in
-      put-other p (get_or set i 0 - 1) (1 - v p) v apart ∙ value_at-right i i_in) (omega arith))
-      (y_is ∙ sym value_is)
-      (λ wrong. omega (arith, wrong, z_is, same_v, two, value_is))
+      let own_T : (v : ℕ) → v < 2 → T (put p v (λ k. 0)) p ≡ v = λ v v_low.
+      told-own m u (AllMet m u (entry u old_rows old_ends)) (λ k. has_number set (k + 1)) c d large tells (put p v (λ k. 0)) (put-low m u p v (omega arith)) p (place_low at low) (at_has at low) ∙
+      put-same p v (λ k. 0) in
+      decided (T (put p value (λ k. 0))) (T (put p (1 - value) (λ k. 0))) (low_T (put p value (λ k. 0))) (low_T (put p (1 - value) (λ k. 0)))
+      (told_next value value_low low)
+      (told_next (1 - value) (omega arith) low)
+      (own_T value value_low)
+      (λ wrong. omega (arith, wrong, own_T (1 - value) (omega arith)))
 
   -- and no slot is left empty in the end
   pub no_empty : (k : ℕ) → k < u → at ≡ length set → get_or ends k 0 ≡ 0 → ⊥
@@ -254,60 +224,63 @@ pub on_false : (b : Bool) (P : Type 0) → (b ≡ false → P) → OnFalse b P
 on_false true P f = tt
 on_false false P f = f refl
 
+-- slots that were used are as they were
+pub kept-same : (u : ℕ) (old_rows ends rows now_ends back : List ℕ) → KeepsUsed u old_rows ends rows now_ends → ((j : ℕ) → j < u → get_or back j 0 ≢ 0 → get_or ends j 0 ≢ 0) → (j k : ℕ) → j < u → k < u + 1 → entry u rows back j k ≡ entry u old_rows back j k
+kept-same u old_rows ends rows now_ends back keeps used j k low k_low =
+    entry-same u rows back old_rows back j k refl (λ some. keeps.same_row j k low k_low (used j low some))
+
+-- rows with the same entries are laid out
+pub laid_out_same : (m u : ℕ) (old_rows rows ends : List ℕ) → IsLaidOut m u old_rows ends → length rows ≡ u * (u + 1) → ((j k : ℕ) → j < u → k < u + 1 → entry u rows ends j k ≡ entry u old_rows ends j k) → IsLaidOut m u rows ends
+laid_out_same m u old_rows rows ends old room same = record {
+  rows_room = room;
+  ends_room = old.ends_room;
+  within = old.within;
+  after = old.after;
+  residues = λ j k low k_low. subst (λ (x : ℕ). x < m) (sym (same j k low k_low)) (old.residues j k low k_low);
+}
+
 -- the rows with their old ends are the old rows
 module _ (m u : ℕ) (old_rows old_ends rows ends back : List ℕ) (old : IsLaidOut m u old_rows old_ends) (now : IsLaidOut m u rows ends) (keeps : KeepsUsed u old_rows old_ends rows ends) (is : back ≡ old_ends) where
+  with_old_ends : (j k : ℕ) → j < u → k < u + 1 → entry u rows old_ends j k ≡ entry u old_rows old_ends j k
+  with_old_ends = kept-same u old_rows old_ends rows ends old_ends keeps (λ j low some. some)
+
   pub restored-same : (j k : ℕ) → j < u → k < u + 1 → entry u rows back j k ≡ entry u old_rows old_ends j k
-  restored-same j k low k_low =
-      entry-same u rows back old_rows old_ends j k (ap (λ xs. get_or xs j 0) is) (λ some. keeps.same_row j k low k_low some)
+  restored-same j k low k_low = ap (λ xs. entry u rows xs j k) is ∙ with_old_ends j k low k_low
 
   pub restored-laid_out : IsLaidOut m u rows back
-  restored-laid_out = record {
-    rows_room = now.rows_room;
-    ends_room = ap length is ∙ old.ends_room;
-    within = λ j low. subst (λ (xs : List ℕ). get_or xs j 0 < u + 1) (sym is) (old.within j low);
-    after = λ j low some.
-        subst (λ (xs : List ℕ). j < get_or xs j 0) (sym is)
-        (old.after j low (λ none. some (ap (λ xs. get_or xs j 0) is ∙ none)));
-    residues = λ j k low k_low.
-        subst (λ (x : ℕ). x < m) (sym (restored-same j k low k_low)) (old.residues j k low k_low);
-  }
+  restored-laid_out =
+      subst (λ (xs : List ℕ). IsLaidOut m u rows xs) (sym is) (laid_out_same m u old_rows rows old_ends old now.rows_room with_old_ends)
 
-module _ (m u : ℕ) (old now : ℕ → ℕ → ℕ) (set : List ℕ) (chosen : ℕ) (numbers : AreUnknowns u set)
-    (met : (z : ℕ → ℕ) → AreResidues m u z → (AllMet m u now z ↔ (AllMet m u old z × ((i : ℕ) → i < length set → z (get_or set i 0 - 1) ≡ chosen_value chosen (get_or set i 0))))) where
-  -- a solution of the rows with those for the choice is a solution for the choice
-  pub found_choice : (z : ℕ → ℕ) → AreResidues m u z → AllMet m u now z → IsChoice m u old (λ k. has_number set (k + 1)) (λ k. chosen_value chosen (k + 1)) z
+module _ (m u : ℕ) (old_rows old_ends rows ends set : List ℕ) (numbers : AreUnknowns u set) (s : HasZeros m u old_rows old_ends rows ends set (length set)) where
+  -- a solution of the rows with those for the set is a solution with zeros there
+  pub found_choice : (z : ℕ → ℕ) → AreResidues m u z → AllMet m u (entry u rows ends) z → IsChoice m u (entry u old_rows old_ends) (λ k. has_number set (k + 1)) (λ k. 0) z
   found_choice z z_low now_met =
-      let both = (met z z_low).0 now_met in
+      let both = (s.met z z_low).0 now_met in
       record {
         residues = z_low;
         met = both.0;
         chosen = λ k low has.
             let found = has_number-index set (k + 1) has in
             let place : get_or set found.0 0 - 1 ≡ k = omega (arith, found.2) in
-            ap z (sym place) ∙ both.1 found.0 found.1 ∙ ap (chosen_value chosen) found.2;
+            ap z (sym place) ∙ both.1 found.0 found.1;
       }
 
   -- and the other way round
-  pub choice_met : (z : ℕ → ℕ) → IsChoice m u old (λ k. has_number set (k + 1)) (λ k. chosen_value chosen (k + 1)) z → AllMet m u now z
+  choice_met : (z : ℕ → ℕ) → IsChoice m u (entry u old_rows old_ends) (λ k. has_number set (k + 1)) (λ k. 0) z → AllMet m u (entry u rows ends) z
   choice_met z is =
-      (met z is.residues).1 (
+      (s.met z is.residues).1 (
         is.met,
         λ i low.
-            let number : get_or set i 0 - 1 + 1 ≡ get_or set i 0 = omega (arith, (numbers i low).0) in
             is.chosen (get_or set i 0 - 1) (omega (arith, (numbers i low).0, (numbers i low).1))
-            (index-has_number set i (get_or set i 0 - 1 + 1) low (sym number)) ∙
-            ap (chosen_value chosen) number,
+            (index-has_number set i (get_or set i 0 - 1 + 1) low (omega (arith, (numbers i low).0))),
       )
 
--- with every slot used there is one solution for the choice
-pub only_choice : (m u : ℕ) (old : ℕ → ℕ → ℕ) (rows ends set : List ℕ) (chosen : ℕ) → AreUnknowns u set → IsLaidOut m u rows ends → ((k : ℕ) → k < u → get_or ends k 0 ≢ 0) →
-    ((z : ℕ → ℕ) → AreResidues m u z → (AllMet m u (entry u rows ends) z ↔ (AllMet m u old z × ((i : ℕ) → i < length set → z (get_or set i 0 - 1) ≡ chosen_value chosen (get_or set i 0))))) →
-    (z : ℕ → ℕ) → AreResidues m u z → AllMet m u (entry u rows ends) z →
-    (y : ℕ → ℕ) → IsChoice m u old (λ k. has_number set (k + 1)) (λ k. chosen_value chosen (k + 1)) y → (j : ℕ) → j < u → y j ≡ z j
-only_choice m u old rows ends set chosen numbers laid used met z z_low z_met y is j low =
-    determined m u (entry u rows ends) (laid_out_form m u rows ends laid) y z is.residues z_low
-    (choice_met m u old (entry u rows ends) set chosen numbers met y is) z_met 0
-    (λ k above k_low none. absurd (omega (arith, none, entry-own u rows ends k (used k k_low)))) j (omega arith) low
+  -- with every slot used there is one
+  pub only_choice : ((k : ℕ) → k < u → get_or ends k 0 ≢ 0) → (z : ℕ → ℕ) → AreResidues m u z → AllMet m u (entry u rows ends) z →
+      (y : ℕ → ℕ) → IsChoice m u (entry u old_rows old_ends) (λ k. has_number set (k + 1)) (λ k. 0) y → (j : ℕ) → j < u → y j ≡ z j
+  only_choice used z z_low z_met y is j low =
+      determined m u (entry u rows ends) (laid_out_form m u rows ends s.laid_out) y z is.residues z_low (choice_met y is) z_met 0
+      (λ k above k_low none. absurd (omega (arith, none, entry-own u rows ends k (used k k_low)))) j (omega arith) low
 
 pub true_of : (b : Bool) (P : Type 0) → OnTrue b P → b ≡ true → P
 true_of true P fact is = fact

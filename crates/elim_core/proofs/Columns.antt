@@ -1,10 +1,11 @@
 -- Lists that loops write: the empty slots, and the columns of a solver list.
-use Rattle.std.proofs.Common.{◌≡◌, ◌≢◌, ℕ, ◌+◌, ◌-◌, ◌*◌, ◌%◌, ◌<◌, ◌≤◌, List, length, get_or, take, true, inl, inr, refl, sym, ◌∙◌, ap, arith, get_or-set_other, get_or-set_same}
+use Rattle.std.proofs.Common.{◌≡◌, ◌≢◌, ℕ, zero, suc, ◌+◌, ◌-◌, ◌*◌, ◌%◌, ◌<◌, ◌≤◌, List, length, get_or, take, true, inl, inr, refl, sym, ◌∙◌, ap, arith, get_or-set_other, get_or-set_same}
 use Rattle.std.proofs.Math.ListN.{set, length-set}
 use Rattle.std.proofs.lemmas.Bool.{cases_eq, cases_lt, eq-eqb, ne_eqb}
 use Rattle.std.proofs.lemmas.List.{get_or-take, length-take-le}
-use Rattle.elim_core.specs.Rows.{spot, IsChoice, chosen_value}
-use Rattle.elim_core.specs.Layout.{entry, IsLaidOut, IsCleared}
+use Rattle.prime_field.specs.Sum.{sum_to}
+use Rattle.prime_field.proofs.Sums.{sum-same}
+use Rattle.elim_core.specs.Rows.{spot, chosen_value, told_in}
 use Rattle.elim_core.specs.Solver.{has_number, IsAscending, AreUnknowns}
 use Rattle.elim_core.proofs.Systems.{put-same, put-other}
 use Rattle.elim_core.proofs.Choices.{has_number-index, index-has_number}
@@ -134,25 +135,64 @@ Constants-more values want n old out at v s room low v_is =
           ];
     }
 
-pub record MultiplesSoFar (m : ℕ) (values want : List ℕ) (n column : ℕ) (old out : List ℕ) (at : ℕ) : Type 0 where
-  pub room : length out ≡ length old
-  pub written : (t : ℕ) → t < at → get_or out (t * (n + 1) + column) 0 ≡ (get_or values (get_or want t 0 - 1) 0 + (m - get_or old (t * (n + 1) + n) 0)) % m
-  pub others : (t k : ℕ) → k < n + 1 → k ≢ column → get_or out (t * (n + 1) + k) 0 ≡ get_or old (t * (n + 1) + k) 0
+-- what later columns give depends on these alone
+told_in-same : (m : ℕ) (values : ℕ → ℕ) (numbers out old : List ℕ) (start first : ℕ) → first < length numbers + 1 → ((k : ℕ) → first < k + 1 → k < length numbers + 1 → get_or out (start + k) 0 ≡ get_or old (start + k) 0) → told_in m values numbers out start first ≡ told_in m values numbers old start first
+told_in-same m values numbers out old start first low same =
+    ap (λ x. (x + get_or out (start + length numbers) 0) % m) (
+    sum-same (length numbers - first) (λ r. get_or out (start + (first + r)) 0 * values (get_or numbers (first + r) 0 - 1)) (λ r. get_or old (start + (first + r)) 0 * values (get_or numbers (first + r) 0 - 1))
+    (λ r r_low. ap (λ x. x * values (get_or numbers (first + r) 0 - 1)) (same (first + r) (omega arith) (omega arith)))) ∙
+    ap (λ x. (sum_to (length numbers - first) (λ r. get_or old (start + (first + r)) 0 * values (get_or numbers (first + r) 0 - 1)) + x) % m) (same (length numbers) (omega arith) (omega arith))
 
-pub Multiples-more : (m : ℕ) (values want : List ℕ) (n column : ℕ) (old out : List ℕ) (at v : ℕ) → MultiplesSoFar m values want n column old out at → length old ≡ length want * (n + 1) → column < n → at < length want → v ≡ (get_or values (get_or want at 0 - 1) 0 + (m - get_or out (at * (n + 1) + n) 0)) % m → MultiplesSoFar m values want n column old (set out (at * (n + 1) + column) v) (at + 1)
-Multiples-more m values want n column old out at v s room column_low low v_is =
+-- a sum that begins with 0
+sum-later : (n : ℕ) (f : ℕ → ℕ) → f 0 ≡ 0 → sum_to (suc n) f ≡ sum_to n (λ k. f (suc k))
+sum-later zero f none = omega (arith, none)
+sum-later (suc n) f none = omega (arith, sum-later n f none)
+
+-- a column at whose unknown the value is 0 gives nothing
+told_in-skip : (m : ℕ) (values : ℕ → ℕ) (numbers out : List ℕ) (start first : ℕ) → first < length numbers → values (get_or numbers first 0 - 1) ≡ 0 → told_in m values numbers out start (first + 1) ≡ told_in m values numbers out start first
+told_in-skip m values numbers out start first low none =
+    let term : ℕ → ℕ = λ r. get_or out (start + (first + r)) 0 * values (get_or numbers (first + r) 0 - 1) in
+    let nothing : term 0 ≡ 0 = ap (λ x. get_or out (start + x) 0 * values (get_or numbers x 0 - 1)) (omega arith) ∙ ap (λ x. get_or out (start + first) 0 * x) none ∙ omega arith in
+    let one_more : length numbers - first ≡ suc (length numbers - (first + 1)) = omega arith in
+    ap (λ x. (x + get_or out (start + length numbers) 0) % m) (
+    sum-same (length numbers - (first + 1)) (λ r. get_or out (start + (first + 1 + r)) 0 * values (get_or numbers (first + 1 + r) 0 - 1)) (λ r. term (suc r))
+    (λ r r_low. ap (λ x. get_or out (start + x) 0 * values (get_or numbers x 0 - 1)) (omega arith)) ∙
+    sym (sum-later (length numbers - (first + 1)) term nothing) ∙
+    ap (λ x. sum_to x term) (sym one_more))
+
+pub told_in-later : (m : ℕ) (values : ℕ → ℕ) (numbers out : List ℕ) (start first gap : ℕ) → first + gap < length numbers + 1 → ((k : ℕ) → first < k + 1 → k < first + gap → values (get_or numbers k 0 - 1) ≡ 0) → told_in m values numbers out start (first + gap) ≡ told_in m values numbers out start first
+told_in-later m values numbers out start first zero low none = ap (told_in m values numbers out start) (omega arith)
+told_in-later m values numbers out start first (suc gap) low none =
+    ap (told_in m values numbers out start) (omega arith) ∙
+    told_in-skip m values numbers out start (first + gap) (omega arith) (none (first + gap) (omega arith) (omega arith)) ∙
+    told_in-later m values numbers out start first gap (omega arith) (λ k above k_low. none k above (omega arith))
+
+-- a column that was written up to row `at`
+pub record ColumnSoFar (m : ℕ) (values numbers want : List ℕ) (column : ℕ) (old out : List ℕ) (at : ℕ) : Type 0 where
+  pub room : length out ≡ length old
+  pub written : (t : ℕ) → t < at → get_or out (t * (length numbers + 1) + column) 0 ≡ (get_or values (get_or want t 0 - 1) 0 + (m - told_in m (λ k. get_or values k 0) numbers old (t * (length numbers + 1)) (column + 1))) % m
+  pub others : (t k : ℕ) → k < length numbers + 1 → k ≢ column → get_or out (t * (length numbers + 1) + k) 0 ≡ get_or old (t * (length numbers + 1) + k) 0
+
+pub Column-more : (m : ℕ) (values numbers want : List ℕ) (column : ℕ) (old out : List ℕ) (at v told : ℕ) → ColumnSoFar m values numbers want column old out at → length old ≡ length want * (length numbers + 1) → column < length numbers → at < length want →
+    told ≡ told_in m (λ k. get_or values k 0) numbers out (at * (length numbers + 1)) (column + 1) → v ≡ (get_or values (get_or want at 0 - 1) 0 + (m - told)) % m →
+    ColumnSoFar m values numbers want column old (set out (at * (length numbers + 1) + column) v) (at + 1)
+Column-more m values numbers want column old out at v told s room column_low low told_is v_is =
+    let n = length numbers in
     let p = at * (n + 1) + column in
+    let now = set out p v in
     let there : p < length out = omega (arith, s.room, room, slot_before at (length want) n column low (omega arith)) in
-    let not_column : n ≢ column = omega arith in
     record {
       room = length-set out p v ∙ s.room;
       written = λ t t_low.
           elim (cases_eq t at) [
             | inl same ↦
-                ap (λ x. get_or (set out p v) (x * (n + 1) + column) 0) same ∙
+                ap (λ x. get_or now (x * (n + 1) + column) 0) same ∙
                 get_or-set_same out p v 0 there ∙ v_is ∙
-                ap (λ x. (get_or values (get_or want at 0 - 1) 0 + (m - x)) % m) (s.others at n (omega arith) not_column) ∙
-                ap (λ x. (get_or values (get_or want x 0 - 1) 0 + (m - get_or old (x * (n + 1) + n) 0)) % m) (sym same)
+                ap (λ x. (get_or values (get_or want at 0 - 1) 0 + (m - x)) % m) (
+                told_is ∙
+                told_in-same m (λ k. get_or values k 0) numbers out old (at * (n + 1)) (column + 1) (omega arith)
+                (λ k above k_low. let other : k ≢ column = omega arith in s.others at k k_low other)) ∙
+                ap (λ x. (get_or values (get_or want x 0 - 1) 0 + (m - told_in m (λ k. get_or values k 0) numbers old (x * (n + 1)) (column + 1))) % m) (sym same)
             | inr other ↦
                 let apart : t * (n + 1) + column ≢ p = λ same. other ((same_place n t column at column (omega arith) (omega arith) same).0) in
                 get_or-set_other out p (t * (n + 1) + column) v 0 apart ∙ s.written t (omega arith)
@@ -161,6 +201,13 @@ Multiples-more m values want n column old out at v s room column_low low v_is =
           let apart : t * (n + 1) + k ≢ p = λ same. other ((same_place n t k at column k_low (omega arith) same).1) in
           get_or-set_other out p (t * (n + 1) + k) v 0 apart ∙ s.others t k k_low other;
     }
+
+-- a choice's value for its own number, and for another
+pub chosen-own : (n : ℕ) → chosen_value n n ≡ 1
+chosen-own n = rw (eq-eqb n n refl) refl
+
+pub chosen-other : (chosen n : ℕ) → n ≢ chosen → chosen_value chosen n ≡ 0
+chosen-other chosen n other = rw (ne_eqb n chosen other) refl
 
 -- a choice's value for a number is that of the row with 1 at its place
 pub chosen-spot : (k x : ℕ) → chosen_value (k + 1) (x + 1) ≡ spot k x
@@ -177,14 +224,4 @@ chosen-spot k x =
 pub chosen-none : (x : ℕ) → chosen_value 0 (x + 1) ≡ 0
 chosen-none x =
     let apart : x + 1 ≢ 0 = omega arith in
-    rw (ne_eqb (x + 1) 0 apart) refl
-
--- the solver list as far as it was written: the columns before `at`, and the constants
-pub record SolvedSoFar (m u : ℕ) (old_rows old_ends rows ends row set want zero_values out : List ℕ) (at : ℕ) : Type 0 where
-  pub laid_out : IsLaidOut m u rows ends
-  pub cleared : IsCleared u row
-  pub same : (j k : ℕ) → j < u → k < u + 1 → entry u rows ends j k ≡ entry u old_rows old_ends j k
-  pub q : ℕ → ℕ → ℕ
-  pub ones : (i : ℕ) → i < at → IsChoice m u (entry u old_rows old_ends) (λ k. has_number set (k + 1)) (λ k. chosen_value (get_or set i 0) (k + 1)) (q i)
-  pub multiples : (t i : ℕ) → t < length want → i < at → get_or out (t * (length set + 1) + i) 0 ≡ (q i (get_or want t 0 - 1) + (m - get_or zero_values (get_or want t 0 - 1) 0)) % m
-  pub constants : (t : ℕ) → t < length want → get_or out (t * (length set + 1) + length set) 0 ≡ get_or zero_values (get_or want t 0 - 1) 0
+    chosen-other 0 (x + 1) apart

@@ -3,13 +3,17 @@ pub mod Echelon
 pub mod Told
 pub mod Entries
 pub mod Spans
+pub mod Products
+pub mod Added
 pub mod Taken
 pub mod Turns
 pub mod Values
 pub mod Choices
+pub mod CutBacks
 pub mod Lists
 pub mod EntryRows
 pub mod Columns
+pub mod SolvedLists
 pub mod Solvers
 pub mod Sets
 pub mod SameSolutions

@@ -1,26 +1,21 @@
 -- Solver values: of the kept rows as functions, and of rows as lists.
-use Rattle.std.proofs.Common.{◌≡◌, ◌≢◌, ℕ, zero, suc, ◌+◌, ◌-◌, ◌*◌, ◌%◌, ◌<◌, ◌≤◌, ◌↔◌, ◌⊎◌, ◌==◌, if◌then◌else◌, Bool, true, false, List, [], ◌∷◌, length, get_or, inl, inr, refl, sym, ◌∙◌, ap, subst, arith}
-use Rattle.std.proofs.lemmas.Bool.{cases_eq, cases_lt, eq-eqb, ne_eqb, or_cases, eqb-true}
+use Rattle.std.proofs.Common.{◌≡◌, ◌≢◌, ℕ, zero, suc, ◌+◌, ◌-◌, ◌*◌, ◌%◌, ◌<◌, ◌≤◌, ◌↔◌, ◌⊎◌, Bool, true, false, List, get_or, inl, inr, refl, sym, ◌∙◌, ap, subst, arith}
+use Rattle.std.proofs.lemmas.Bool.{cases_eq}
 use Rattle.prime_field.specs.Modulus.{value_of}
 use Rattle.prime_field.proofs.Moduli.{value_of-large}
 use Rattle.prime_field.proofs.Sums.{sum-same}
 use Rattle.elim_core.specs.Rows.{AllMet, AreResidues, spot, IsChoice, Tells, IsUntold, chosen_value, IsSolvedList}
-use Rattle.elim_core.specs.Layout.{entry, IsLaidOut, IsCleared}
+use Rattle.elim_core.specs.Layout.{entry, IsLaidOut}
 use Rattle.elim_core.specs.Solution.{IsSolution, IsIndependent}
-use Rattle.elim_core.specs.Solver.{has_number, IsAscending, AreUnknowns, IsSolverValue, HasSolverValue, number_at, ListsIndependent, IsCoefficient, IsSolverList}
+use Rattle.elim_core.specs.Solver.{has_number, IsSolverValue, HasSolverValue, number_at, ListsIndependent, IsCoefficient, IsSolverList}
 use Rattle.elim_core.specs.Kept.{rows_of, ends_of, kept_rows, HasSolution}
 use Rattle.elim_core.specs.declared.Elim.{Elim}
-use Rattle.elim_core.proofs.Systems.{Meets-row, Meets-same}
+use Rattle.elim_core.proofs.Systems.{Meets-same, rows_same}
 use Rattle.elim_core.proofs.Echelon.{determined, free_differ, dependent_agree, solution_for}
 use Rattle.elim_core.proofs.Entries.{entry-empty, entry-own, entry-no_end, laid_out_form}
-use Rattle.elim_core.proofs.Told.{multiple_of, choices_tell, choices_multiple, told, told_solves, spot-low, same_constant, same_multiple}
-use Rattle.elim_core.proofs.Choices.{index-has_number}
-use Rattle.elim_core.proofs.Columns.{SolvedSoFar, chosen-spot, chosen-none}
+use Rattle.elim_core.proofs.Told.{multiple_of, choices_tell, choices_multiple, told, told_solves, put-low, same_constant, same_multiple}
+use Rattle.elim_core.proofs.Columns.{chosen-spot, chosen-none}
 use Rattle.elim_core.proofs.Lists.{listed, length-listed, index-listed, kept_met, met_kept, function_kept, failed_none}
-
--- rows with the same entries hold at the same lists
-pub rows_same : (m u : ℕ) (old now : ℕ → ℕ → ℕ) → ((j k : ℕ) → j < u → k < u + 1 → now j k ≡ old j k) → (z : ℕ → ℕ) → AllMet m u old z → AllMet m u now z
-rows_same m u old now same z met j low = Meets-row m u (old j) (now j) z (λ k k_low. same j k low k_low) (met j low)
 
 -- values that are told where the same is solved
 pub tells_along : (m u : ℕ) (One Other : (ℕ → ℕ) → Type 0) (has : ℕ → Bool) (c : ℕ → ℕ → ℕ) (d : ℕ → ℕ) → ((z : ℕ → ℕ) → AreResidues m u z → (Other z ↔ One z)) → Tells m u One has c d → Tells m u Other has c d
@@ -36,144 +31,6 @@ tells_along m u One Other has c d same t = record {
     λ told. (same z low).1 ((t.exact z low).1 told),
   );
 }
-
--- rows with the same entries tell nothing either
-pub untold_same : (m u : ℕ) (old now : ℕ → ℕ → ℕ) (has : ℕ → Bool) → ((j k : ℕ) → j < u → k < u + 1 → now j k ≡ old j k) → IsUntold m u now has → IsUntold m u old has
-untold_same m u old now has same untold c d tells =
-    untold c d (tells_along m u (AllMet m u old) (AllMet m u now) has c d (λ z low. (
-      rows_same m u now old (λ j k j_low k_low. sym (same j k j_low k_low)) z,
-      rows_same m u old now same z,
-    )) tells)
-
--- a choice's solution for rows with the same entries
-pub choice_same : (m u : ℕ) (old now : ℕ → ℕ → ℕ) (has : ℕ → Bool) (v z : ℕ → ℕ) → ((j k : ℕ) → j < u → k < u + 1 → now j k ≡ old j k) → IsChoice m u now has v z → IsChoice m u old has v z
-choice_same m u old now has v z same is = record {
-  residues = is.residues;
-  met = rows_same m u now old (λ j k j_low k_low. sym (same j k j_low k_low)) z is.met;
-  chosen = is.chosen;
-}
-
-pub Solved-start : (m u : ℕ) (old_rows old_ends rows ends row set want values out : List ℕ) → IsLaidOut m u rows ends → IsCleared u row → ((j k : ℕ) → j < u → k < u + 1 → entry u rows ends j k ≡ entry u old_rows old_ends j k) →
-    ((t : ℕ) → t < length want → get_or out (t * (length set + 1) + length set) 0 ≡ get_or values (get_or want t 0 - 1) 0) →
-    SolvedSoFar m u old_rows old_ends rows ends row set want values out 0
-Solved-start m u old_rows old_ends rows ends row set want values out laid clear same constants = record {
-  laid_out = laid;
-  cleared = clear;
-  same = same;
-  q = λ i k. 0;
-  ones = λ i low. absurd (omega arith);
-  multiples = λ t i t_low low. absurd (omega arith);
-  constants = constants;
-}
-
-pub Solved-more : (m u : ℕ) (old_rows old_ends rows ends row rows' ends' row' set want zero_values values out out' : List ℕ) (at : ℕ) → SolvedSoFar m u old_rows old_ends rows ends row set want zero_values out at → at < length set → AreUnknowns u want →
-    IsLaidOut m u rows' ends' → IsCleared u row' → ((j k : ℕ) → j < u → k < u + 1 → entry u rows' ends' j k ≡ entry u rows ends j k) →
-    IsChoice m u (entry u rows ends) (λ k. has_number set (k + 1)) (λ k. chosen_value (get_or set at 0) (k + 1)) (λ k. get_or values k 0) →
-    ((t : ℕ) → t < length want → get_or out' (t * (length set + 1) + at) 0 ≡ (get_or values (get_or want t 0 - 1) 0 + (m - get_or out (t * (length set + 1) + length set) 0)) % m) →
-    ((t k : ℕ) → k < length set + 1 → k ≢ at → get_or out' (t * (length set + 1) + k) 0 ≡ get_or out (t * (length set + 1) + k) 0) →
-    SolvedSoFar m u old_rows old_ends rows' ends' row' set want zero_values out' (at + 1)
-Solved-more m u old_rows old_ends rows ends row rows' ends' row' set want zero_values values out out' at s low want_low laid clear same found written others =
-    record {
-      laid_out = laid;
-      cleared = clear;
-      same = λ j k j_low k_low. same j k j_low k_low ∙ s.same j k j_low k_low;
-      q = λ i. if i == at then (λ k. get_or values k 0) else s.q i;
-      ones = λ i i_low.
-          elim (cases_eq i at) [
-            | inl is ↦
-                rw (eq-eqb i at is)
-                (subst (λ (x : ℕ). IsChoice m u (entry u old_rows old_ends) (λ k. has_number set (k + 1)) (λ k. chosen_value (get_or set x 0) (k + 1)) (λ k. get_or values k 0)) (sym is)
-                (choice_same m u (entry u old_rows old_ends) (entry u rows ends) (λ k. has_number set (k + 1)) (λ k. chosen_value (get_or set at 0) (k + 1)) (λ k. get_or values k 0) s.same found))
-            | inr ne ↦ rw (ne_eqb i at ne) (s.ones i (omega arith))
-          ];
-      multiples = λ t i t_low i_low.
-          elim (cases_eq i at) [
-            | inl is ↦
-                rw (eq-eqb i at is)
-                (ap (λ x. get_or out' (t * (length set + 1) + x) 0) is ∙ written t t_low ∙
-                ap (λ x. (get_or values (get_or want t 0 - 1) 0 + (m - x)) % m) (s.constants t t_low))
-            | inr ne ↦ rw (ne_eqb i at ne) (others t i (omega arith) ne ∙ s.multiples t i t_low (omega arith))
-          ];
-      constants = λ t t_low.
-          let apart : length set ≢ at = omega arith in
-          others t (length set) (omega arith) apart ∙ s.constants t t_low;
-    }
-
--- where a number stands in a list
-position_in : List ℕ → ℕ → ℕ
-position_in [] n = 0
-position_in (x ∷ xs) n = if x == n then 0 else suc (position_in xs n)
-
-position-at : (xs : List ℕ) (n : ℕ) → has_number xs n ≡ true → (position_in xs n < length xs) × (get_or xs (position_in xs n) 0 ≡ n)
-unfolding position_in
-position-at [] n has = absurd (cc)
-position-at (x ∷ xs) n has =
-    elim (cases_eq x n) [
-      | inl same ↦ rw (eq-eqb x n same) (omega arith, same)
-      | inr other ↦
-          elim (or_cases _ _ has) [
-            | inl first ↦ absurd (other (eqb-true x n first))
-            | inr later ↦
-                let found = position-at xs n later in
-                rw (ne_eqb x n other) (omega (arith, found.0), found.1)
-          ]
-    ]
-
-position-own : (xs : List ℕ) (i : ℕ) → IsAscending xs → i < length xs → position_in xs (get_or xs i 0) ≡ i
-position-own xs i ascending low =
-    let found = position-at xs (get_or xs i 0) (index-has_number xs i (get_or xs i 0) low refl) in
-    elim (cases_lt (position_in xs (get_or xs i 0)) i) [
-      | inl before ↦ absurd (omega (arith, ascending (position_in xs (get_or xs i 0)) i before low, found.1))
-      | inr not_before ↦
-          elim (cases_lt i (position_in xs (get_or xs i 0))) [
-            | inl after ↦ absurd (omega (arith, ascending i (position_in xs (get_or xs i 0)) after found.0, found.1))
-            | inr not_after ↦ omega arith
-          ]
-    ]
-
--- the whole list
-pub solved_list : (m u : ℕ) (old_rows old_ends rows ends row set want values out : List ℕ) → 1 < m → IsAscending set → AreUnknowns u set → AreUnknowns u want →
-    IsChoice m u (entry u old_rows old_ends) (λ k. has_number set (k + 1)) (λ k. chosen_value 0 (k + 1)) (λ k. get_or values k 0) →
-    ((y : ℕ → ℕ) → IsChoice m u (entry u old_rows old_ends) (λ k. has_number set (k + 1)) (λ k. chosen_value 0 (k + 1)) y → (j : ℕ) → j < u → y j ≡ get_or values j 0) →
-    SolvedSoFar m u old_rows old_ends rows ends row set want values out (length set) →
-    IsSolvedList m u (entry u old_rows old_ends) set want out
-solved_list m u old_rows old_ends rows ends row set want values out large ascending numbers want_low found only s =
-    let R = entry u old_rows old_ends in
-    let has : ℕ → Bool = λ k. has_number set (k + 1) in
-    let p : ℕ → ℕ = λ k. get_or values k 0 in
-    let q : ℕ → ℕ → ℕ = λ k. s.q (position_in set (k + 1)) in
-    let zeros : IsChoice m u R has (λ k. 0) p = record {
-      residues = found.residues;
-      met = found.met;
-      chosen = λ k low is. found.chosen k low is ∙ chosen-none k;
-    } in
-    let ones : (k : ℕ) → k < u → has k ≡ true → IsChoice m u R has (spot k) (q k) = λ k low is.
-    let place = position-at set (k + 1) is in
-    let one = s.ones (position_in set (k + 1)) place.0 in
-    record {
-      residues = one.residues;
-      met = one.met;
-      chosen = λ x x_low x_is. one.chosen x x_low x_is ∙ ap (λ n. chosen_value n (x + 1)) place.1 ∙ chosen-spot k x;
-    } in
-    let alone : (y : ℕ → ℕ) → IsChoice m u R has (λ k. 0) y → (j : ℕ) → j < u → y j ≡ p j = λ y is.
-    only y (record {
-      residues = is.residues;
-      met = is.met;
-      chosen = λ k low k_is. is.chosen k low k_is ∙ sym (chosen-none k);
-    }) in
-    record {
-      c = multiple_of m has p q;
-      d = p;
-      tells = choices_tell m u R has p q large zeros ones alone;
-      multiples = λ t i t_low i_low.
-          let number : get_or set i 0 - 1 + 1 ≡ get_or set i 0 = omega (arith, (numbers i i_low).0) in
-          let is : has (get_or set i 0 - 1) ≡ true = index-has_number set i (get_or set i 0 - 1 + 1) i_low (sym number) in
-          let place : position_in set (get_or set i 0 - 1 + 1) ≡ i = ap (position_in set) number ∙ position-own set i ascending i_low in
-          s.multiples t i t_low i_low ∙
-          ap (λ x. (s.q x (get_or want t 0 - 1) + (m - p (get_or want t 0 - 1))) % m) (sym place) ∙
-          sym (choices_multiple m u R has p q large zeros ones alone (get_or want t 0 - 1) (get_or set i 0 - 1) is);
-      constants = s.constants;
-    }
 
 -- the value at a place in what solves the rows with given values where slots are empty
 pub value_alone : (m u : ℕ) (rows ends : List ℕ) (values v z : ℕ → ℕ) (place : ℕ) → IsLaidOut m u rows ends → place < u → AreResidues m u values → AllMet m u (entry u rows ends) values → ((k : ℕ) → k < u → get_or ends k 0 ≡ 0 → values k ≡ v k) → AreResidues m u z → AllMet m u (entry u rows ends) z → ((k : ℕ) → k < u → get_or ends k 0 ≡ 0 → z k ≡ v k) → values place ≡ z place
@@ -329,7 +186,7 @@ module _ (e : Elim) (words : List ℕ) (opened : e.failed ≡ false) where
 
       f_one : ℕ → ℕ → ℕ
       f_one k = (solution_for (value_of e.modulus) e.unknowns (entry e.unknowns (rows_of e.unknowns words) (ends_of e.unknowns words))
-          (laid_out_form (value_of e.modulus) e.unknowns (rows_of e.unknowns words) (ends_of e.unknowns words) laid) (spot k) (spot-low (value_of e.modulus) e.unknowns k (value_of-large e.modulus))).z
+          (laid_out_form (value_of e.modulus) e.unknowns (rows_of e.unknowns words) (ends_of e.unknowns words) laid) (spot k) (put-low (value_of e.modulus) e.unknowns k 1 (value_of-large e.modulus))).z
 
       is_empty : (k : ℕ) → k < e.unknowns → has_number set (k + 1) ≡ true → get_or (ends_of e.unknowns words) k 0 ≡ 0
       is_empty k low has = independent_empty k low ((lists k low).0 has)
@@ -355,7 +212,7 @@ module _ (e : Elim) (words : List ℕ) (opened : e.failed ≡ false) where
       unfolding f_one
       ones i i_low i_has =
           let s = solution_for (value_of e.modulus) e.unknowns (entry e.unknowns (rows_of e.unknowns words) (ends_of e.unknowns words))
-          (laid_out_form (value_of e.modulus) e.unknowns (rows_of e.unknowns words) (ends_of e.unknowns words) laid) (spot i) (spot-low (value_of e.modulus) e.unknowns i (value_of-large e.modulus)) in
+          (laid_out_form (value_of e.modulus) e.unknowns (rows_of e.unknowns words) (ends_of e.unknowns words) laid) (spot i) (put-low (value_of e.modulus) e.unknowns i 1 (value_of-large e.modulus)) in
           record {
             residues = s.residues;
             met = λ j low. s.met j (omega arith) low;

@@ -3,7 +3,7 @@ use Rattle.std.proofs.Common.{◌≡◌, ◌≢◌, ℕ, zero, suc, ◌+◌, ◌
 use Rattle.std.proofs.lemmas.Bool.{cases_lt}
 use Rattle.std.proofs.Math.Nat.{mod-eq_of_lt, mod-mod, zero-mod, mod_self, add-mod-mod}
 use Rattle.prime_field.specs.Sum.{sum_to}
-use Rattle.elim_core.specs.Rows.{Meets, AreResidues, put}
+use Rattle.elim_core.specs.Rows.{Meets, AllMet, AreResidues, put}
 use Rattle.prime_field.proofs.Residues.{add-cong, mul-cong, cancel}
 use Rattle.prime_field.proofs.Sums.{sum-same, sum-cong, sum-add_scaled, sum-scaled, sum_differ}
 
@@ -30,6 +30,10 @@ Meets-row m u r t z same met =
     ap (λ x. x % m) (sum-same u (λ k. t k * z k) (λ k. r k * z k) (λ k low. ap (λ x. x * z k) (same k (omega arith)))) ∙
     met ∙
     sym (same u (omega arith))
+
+-- rows with the same entries hold at the same lists
+pub rows_same : (m u : ℕ) (old now : ℕ → ℕ → ℕ) → ((j k : ℕ) → j < u → k < u + 1 → now j k ≡ old j k) → (z : ℕ → ℕ) → AllMet m u old z → AllMet m u now z
+rows_same m u old now same z met j low = Meets-row m u (old j) (now j) z (λ k k_low. same j k low k_low) (met j low)
 
 -- a row of zeros holds everywhere
 pub Meets-zeros : (m u : ℕ) (row z : ℕ → ℕ) → ((k : ℕ) → k < u → row k ≡ 0) → sum_to u (λ k. row k * z k) % m ≡ 0

@@ -5,7 +5,7 @@ use Rattle.std.proofs.Math.Nat.{mod-eq_of_lt, mod-lt, mod-mod, zero-mod, mod_sel
 use Rattle.prime_field.specs.Sum.{sum_to}
 use Rattle.prime_field.proofs.Residues.{add-cong, mul-cong, cancel}
 use Rattle.prime_field.proofs.Sums.{sum-same, sum-cong, sum-add_scaled, sum-scaled, sum-pick}
-use Rattle.elim_core.specs.Rows.{Meets, AllMet, AreResidues, spot, IsChoice, Tells}
+use Rattle.elim_core.specs.Rows.{Meets, AllMet, AreResidues, put, spot, IsChoice, Tells}
 use Rattle.elim_core.proofs.Systems.{put-same, put-other}
 
 -- a sum of zeros
@@ -51,27 +51,37 @@ difference_none m u row q p h p_low q_met p_met is =
     zero-mod m
 
 -- what is told by multiples that solve a row with 0 on the right side, and a constant that solves it, solves it
-pub told_meets : (m u : ℕ) (row : ℕ → ℕ) (c : ℕ → ℕ → ℕ) (d a w : ℕ → ℕ) → ((k : ℕ) → k < u → sum_to u (λ j. row j * c j k) % m ≡ 0) → Meets m u row d → ((j : ℕ) → j < u → w j ≡ (sum_to u (λ k. c j k * a k) + d j) % m) → Meets m u row w
-told_meets m u row c d a w none d_met told =
-    sym (sum-row_added m u row (λ j. sum_to u (λ k. c j k * a k)) d w (λ j low.
-    sym (ap (λ x. x % m) (told j low) ∙ mod-mod (sum_to u (λ k. c j k * a k) + d j) m))) ∙
-    add-cong m (sum_to u (λ j. row j * sum_to u (λ k. c j k * a k))) 0 (sum_to u (λ k. row k * d k)) (sum_to u (λ k. row k * d k))
+pub told_meets : (m u n : ℕ) (row : ℕ → ℕ) (c : ℕ → ℕ → ℕ) (d a w : ℕ → ℕ) → ((k : ℕ) → k < n → sum_to u (λ j. row j * c j k) % m ≡ 0) → Meets m u row d → ((j : ℕ) → j < u → w j ≡ (sum_to n (λ k. c j k * a k) + d j) % m) → Meets m u row w
+told_meets m u n row c d a w none d_met told =
+    sym (sum-row_added m u row (λ j. sum_to n (λ k. c j k * a k)) d w (λ j low.
+    sym (ap (λ x. x % m) (told j low) ∙ mod-mod (sum_to n (λ k. c j k * a k) + d j) m))) ∙
+    add-cong m (sum_to u (λ j. row j * sum_to n (λ k. c j k * a k))) 0 (sum_to u (λ k. row k * d k)) (sum_to u (λ k. row k * d k))
     (vanish ∙ sym (zero-mod m)) refl ∙
     ap (λ x. x % m) (omega arith) ∙
     d_met
   where
-    vanish : sum_to u (λ j. row j * sum_to u (λ k. c j k * a k)) % m ≡ 0
+    vanish : sum_to u (λ j. row j * sum_to n (λ k. c j k * a k)) % m ≡ 0
     vanish =
         ap (λ x. x % m) (
-        sum-same u (λ j. row j * sum_to u (λ k. c j k * a k)) (λ j. sum_to u (λ k. row j * (c j k * a k)))
-        (λ j low. sym (sum-scaled u (row j) (λ k. c j k * a k))) ∙
-        sum_swap u u (λ j k. row j * (c j k * a k))) ∙
-        sum-none m u (λ k. sum_to u (λ j. row j * (c j k * a k))) (λ k low.
+        sum-same u (λ j. row j * sum_to n (λ k. c j k * a k)) (λ j. sum_to n (λ k. row j * (c j k * a k)))
+        (λ j low. sym (sum-scaled n (row j) (λ k. c j k * a k))) ∙
+        sum_swap u n (λ j k. row j * (c j k * a k))) ∙
+        sum-none m n (λ k. sum_to u (λ j. row j * (c j k * a k))) (λ k low.
         ap (λ x. x % m) (
         sum-same u (λ j. row j * (c j k * a k)) (λ j. a k * (row j * c j k)) (λ j j_low. omega arith) ∙
         sum-scaled u (a k) (λ j. row j * c j k)) ∙
         mul-cong m (a k) (a k) (sum_to u (λ j. row j * c j k)) 0 refl (none k low ∙ sym (zero-mod m)) ∙
         ap (λ x. x % m) (omega arith) ∙ zero-mod m)
+
+-- a solution moved by the difference of two others solves the row
+pub moved_meets : (m u : ℕ) (row z w p x : ℕ → ℕ) → AreResidues m u w → Meets m u row z → Meets m u row w → Meets m u row p → ((k : ℕ) → k < u → x k ≡ ((z k + (m - w k)) % m + p k) % m) → Meets m u row x
+moved_meets m u row z w p x w_low z_met w_met p_met is =
+    sym (sum-row_added m u row (λ k. (z k + (m - w k)) % m) p x (λ k k_low.
+    sym (ap (λ t. t % m) (is k k_low) ∙ mod-mod ((z k + (m - w k)) % m + p k) m))) ∙
+    add-cong m (sum_to u (λ k. row k * ((z k + (m - w k)) % m))) 0 (sum_to u (λ k. row k * p k)) (sum_to u (λ k. row k * p k))
+    (difference_none m u row z w (λ k. (z k + (m - w k)) % m) w_low z_met w_met (λ k k_low. refl) ∙ sym (zero-mod m)) refl ∙
+    ap (λ t. t % m) (omega arith) ∙
+    p_met
 
 pub bool_cases : (b : Bool) → (b ≡ true) ⊎ (b ≡ false)
 bool_cases true = inl refl
@@ -134,12 +144,12 @@ module _ (m u : ℕ) (Solves : (ℕ → ℕ) → Type 0) (has : ℕ → Bool) (c
       (λ i i_low other. ap (λ x. c j i * x) (put-other k i 1 (λ x. 0) other) ∙ omega arith) in
       ap (λ x. (x + d j) % m) (picked ∙ ap (λ x. c j k * x) (put-same k 1 (λ x. 0)) ∙ omega arith)
 
--- its values are residues
-pub spot-low : (m u k : ℕ) → 1 < m → AreResidues m u (spot k)
-spot-low m u k large i low =
+-- a residue at one place, and zeros elsewhere
+pub put-low : (m u k v : ℕ) → v < m → AreResidues m u (put k v (λ x. 0))
+put-low m u k v v_low i low =
     elim (cases_eq i k) [
-      | inl same ↦ subst (λ (x : ℕ). x < m) (sym (put-same k 1 (λ x. 0)) ∙ ap (spot k) (sym same)) large
-      | inr other ↦ subst (λ (x : ℕ). x < m) (sym (put-other k i 1 (λ x. 0) other)) (omega arith)
+      | inl same ↦ subst (λ (x : ℕ). x < m) (sym (put-same k v (λ x. 0)) ∙ ap (put k v (λ x. 0)) (sym same)) v_low
+      | inr other ↦ subst (λ (x : ℕ). x < m) (sym (put-other k i v (λ x. 0) other)) (omega arith)
     ]
 
 module _ (m u : ℕ) (Solves : (ℕ → ℕ) → Type 0) (has : ℕ → Bool) (large : 1 < m) (c c' : ℕ → ℕ → ℕ) (d d' : ℕ → ℕ) (tells : Tells m u Solves has c d) (tells' : Tells m u Solves has c' d') where
@@ -164,7 +174,7 @@ module _ (m u : ℕ) (Solves : (ℕ → ℕ) → Type 0) (has : ℕ → Bool) (l
       sym (mod-eq_of_lt (tells.residues j k low k_low)) ∙
       cancel m (c j k) (c' j k) (d j) (
       sym (told-spot m u Solves has c d large tells j k low k_low) ∙
-      same_told (spot k) (spot-low m u k large) j low ∙
+      same_told (spot k) (put-low m u k 1 large) j low ∙
       told-spot m u Solves has c' d' large tells' j k low k_low ∙
       ap (λ x. (c' j k + x) % m) (sym (same_constant j low))) ∙
       mod-eq_of_lt (tells'.residues j k low k_low)
@@ -193,7 +203,7 @@ module _ (m u : ℕ) (rows : ℕ → ℕ → ℕ) (has : ℕ → Bool) (p : ℕ 
       ap (λ x. (spot k j + x) % m) (omega arith) ∙
       sym (add-mod-mod (spot k j) m m) ∙ ap (λ x. (spot k j + x) % m) (mod_self m) ∙
       ap (λ x. x % m) (omega arith) ∙
-      mod-eq_of_lt (spot-low m u k large j low)
+      mod-eq_of_lt (put-low m u k 1 large j low)
 
   c-low : (j k : ℕ) → multiple_of m has p q j k < m
   c-low j k =
@@ -229,7 +239,7 @@ module _ (m u : ℕ) (rows : ℕ → ℕ → ℕ) (has : ℕ → Bool) (p : ℕ 
   now_solves : (z w : ℕ → ℕ) → ((j : ℕ) → j < u → w j ≡ told_now z j) → AllMet m u rows w
   unfolding told_now
   now_solves z w is i i_low =
-      told_meets m u (rows i) (multiple_of m has p q) p z w (columns i i_low) (zeros.met i i_low) is
+      told_meets m u u (rows i) (multiple_of m has p q) p z w (columns i i_low) (zeros.met i i_low) is
 
   now_own : (z : ℕ → ℕ) → AreResidues m u z → (j : ℕ) → j < u → has j ≡ true → told_now z j ≡ z j
   unfolding told_now
@@ -252,7 +262,7 @@ module _ (m u : ℕ) (rows : ℕ → ℕ → ℕ) (has : ℕ → Bool) (p : ℕ 
       let w_low : AreResidues m u w = now_low z in
       let w_met : AllMet m u rows w = now_solves z w (λ k k_low. refl) in
       let x_met : AllMet m u rows x = λ i i_low.
-      cancelled (rows i) z w x z_low w_low (z_met i i_low) (w_met i i_low) (zeros.met i i_low) (λ k k_low. refl) in
+      moved_meets m u (rows i) z w p x w_low (z_met i i_low) (w_met i i_low) (zeros.met i i_low) (λ k k_low. refl) in
       let x_is : x j ≡ p j = only x (record {
         residues = λ k k_low. mod-lt ((z k + (m - w k)) % m + p k) (omega arith);
         met = x_met;
@@ -272,15 +282,6 @@ module _ (m u : ℕ) (rows : ℕ → ℕ → ℕ) (has : ℕ → Bool) (p : ℕ 
       zero-mod m) ∙
       ap (λ t. t % m) (omega arith) ∙
       mod-eq_of_lt (w_low j low)
-    where
-      cancelled : (row z w x : ℕ → ℕ) → AreResidues m u z → AreResidues m u w → Meets m u row z → Meets m u row w → Meets m u row p → ((k : ℕ) → k < u → x k ≡ ((z k + (m - w k)) % m + p k) % m) → Meets m u row x
-      cancelled row z w x z_low w_low z_met w_met p_met is =
-          sym (sum-row_added m u row (λ k. (z k + (m - w k)) % m) p x (λ k k_low.
-          sym (ap (λ t. t % m) (is k k_low) ∙ mod-mod ((z k + (m - w k)) % m + p k) m))) ∙
-          add-cong m (sum_to u (λ k. row k * ((z k + (m - w k)) % m))) 0 (sum_to u (λ k. row k * p k)) (sum_to u (λ k. row k * p k))
-          (difference_none m u row z w (λ k. (z k + (m - w k)) % m) w_low z_met w_met (λ k k_low. refl) ∙ sym (zero-mod m)) refl ∙
-          ap (λ t. t % m) (omega arith) ∙
-          p_met
 
   -- the solutions for one choice at a time tell all solutions
   pub choices_tell : Tells m u (AllMet m u rows) has (multiple_of m has p q) p

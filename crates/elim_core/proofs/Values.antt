@@ -1,17 +1,22 @@
 -- Values of unknowns by kept rows: a row's sum, term by term, and the values from the last on.
-use Rattle.std.proofs.Common.{◌≡◌, ◌≢◌, ℕ, zero, suc, ◌+◌, ◌-◌, ◌*◌, ◌%◌, ◌<◌, ◌≤◌, List, length, get_or, inl, inr, refl, sym, ◌∙◌, ap, subst, arith, add-one, get_or-set_other, get_or-set_same}
+use Rattle.std.proofs.Common.{◌≡◌, ◌≢◌, ℕ, zero, suc, ◌+◌, ◌-◌, ◌*◌, ◌%◌, ◌<◌, ◌≤◌, List, length, take, drop, get_or, inl, inr, refl, sym, ◌∙◌, ap, subst, arith, length-drop, get_or-set_other, get_or-set_same}
 use Rattle.std.proofs.Math.ListN.{set, length-set}
-use Rattle.std.proofs.Math.Nat.{mod-lt, add-mod-mod, mod-add-mod}
+use Rattle.std.proofs.lemmas.List.{get_or-take, get_or-drop, length-take}
+use Rattle.std.proofs.Math.Nat.{mod-lt}
 use Rattle.std.proofs.lemmas.Bool.{cases_eq}
 use Rattle.prime_field.specs.Sum.{sum_to}
+use Rattle.prime_field.proofs.Sums.{sum-same}
+use Rattle.elim_core.specs.Multiples.{product_at}
+use Rattle.elim_core.proofs.Products.{sum-parts}
+use Rattle.elim_core.proofs.Taken.{slot_before}
 use Rattle.elim_core.specs.Rows.{Meets, put}
 use Rattle.elim_core.specs.Layout.{entry, IsLaidOut}
 use Rattle.elim_core.proofs.Systems.{Meets-same, put-same, put-other, row_solved}
 use Rattle.elim_core.proofs.Echelon.{empty_met}
-use Rattle.elim_core.proofs.Entries.{entry-empty, entry-before, entry-own, entry-within, entry-right, entry-beyond, laid_out_form}
+use Rattle.elim_core.proofs.Entries.{entry-empty, entry-before, entry-own, entry-within, entry-beyond, laid_out_form}
 
 -- what comes after the last term that isn't 0 adds nothing
-pub sum-upto : (n at : ℕ) (f : ℕ → ℕ) → at ≤ n → ((k : ℕ) → at < k + 1 → k < n → f k ≡ 0) → sum_to n f ≡ sum_to at f
+sum-upto : (n at : ℕ) (f : ℕ → ℕ) → at ≤ n → ((k : ℕ) → at < k + 1 → k < n → f k ≡ 0) → sum_to n f ≡ sum_to at f
 sum-upto zero at f low none = let same : zero ≡ at = omega arith in ap (λ t. sum_to t f) same
 sum-upto (suc n) at f low none =
     elim (cases_eq at (suc n)) [
@@ -24,7 +29,7 @@ abbrev pub term : (u : ℕ) (rows ends values : List ℕ) (place k : ℕ) → �
 term u rows ends values place k = entry u rows ends place k * put place 0 (λ i. get_or values i 0) k
 
 -- nothing comes up to the row's own place
-pub sum-start : (u : ℕ) (rows ends values : List ℕ) (place : ℕ) → sum_to (place + 1) (term u rows ends values place) ≡ 0
+sum-start : (u : ℕ) (rows ends values : List ℕ) (place : ℕ) → sum_to (place + 1) (term u rows ends values place) ≡ 0
 sum-start u rows ends values place =
     sum-upto (place + 1) 0 (term u rows ends values place) (omega arith) (λ k above low.
     elim (cases_eq k place) [
@@ -35,31 +40,62 @@ sum-start u rows ends values place =
           ap (λ x. x * put place 0 (λ i. get_or values i 0) k) (entry-before u rows ends place k (omega arith)) ∙ omega arith
     ])
 
-pub sum-next : (m u : ℕ) (rows ends values : List ℕ) (place k sum : ℕ) → get_or ends place 0 ≢ 0 → place < k → k < get_or ends place 0 → sum ≡ sum_to k (term u rows ends values place) % m →
-    (sum + (get_or rows (place * (u + 1) + k) 0 * get_or values k 0) % m) % m ≡ sum_to (k + 1) (term u rows ends values place) % m
-sum-next m u rows ends values place k sum used above low so_far =
-    let other : k ≢ place = omega arith in
-    add-mod-mod sum (get_or rows (place * (u + 1) + k) 0 * get_or values k 0) m ∙
-    ap (λ x. (x + get_or rows (place * (u + 1) + k) 0 * get_or values k 0) % m) so_far ∙
-    mod-add-mod (sum_to k (term u rows ends values place)) m (get_or rows (place * (u + 1) + k) 0 * get_or values k 0) ∙
-    ap (λ x. (sum_to k (term u rows ends values place) + x * get_or values k 0) % m) (sym (entry-within u rows ends place k used above low)) ∙
-    ap (λ x. (sum_to k (term u rows ends values place) + entry u rows ends place k * x) % m) (sym (put-other place k 0 (λ i. get_or values i 0) other)) ∙
-    ap (λ t. sum_to t (term u rows ends values place) % m) (sym (add-one k))
-
-pub sum-end : (u : ℕ) (rows ends values : List ℕ) (place : ℕ) → place < get_or ends place 0 → get_or ends place 0 ≤ u → sum_to u (term u rows ends values place) ≡ sum_to (get_or ends place 0) (term u rows ends values place)
+sum-end : (u : ℕ) (rows ends values : List ℕ) (place : ℕ) → place < get_or ends place 0 → get_or ends place 0 ≤ u → sum_to u (term u rows ends values place) ≡ sum_to (get_or ends place 0) (term u rows ends values place)
 sum-end u rows ends values place after low =
     sum-upto u (get_or ends place 0) (term u rows ends values place) low (λ k above k_low.
     ap (λ x. x * put place 0 (λ i. get_or values i 0) k) (entry-beyond u rows ends place k (omega arith) above k_low) ∙ omega arith)
 
--- what the row leaves for its unknown, by the sum that the loop made
-pub sum-left : (m u : ℕ) (rows ends values : List ℕ) (place k sum : ℕ) → IsLaidOut m u rows ends → place < u → get_or ends place 0 ≢ 0 → k ≡ get_or ends place 0 → sum ≡ sum_to k (term u rows ends values place) % m →
-    (get_or rows (place * (u + 1) + u) 0 + (m - sum)) % m ≡ (entry u rows ends place u + (m - sum_to u (term u rows ends values place) % m)) % m
-sum-left m u rows ends values place k sum laid low used k_is sum_is =
-    let whole : sum ≡ sum_to u (term u rows ends values place) % m =
-    sum_is ∙ ap (λ t. sum_to t (term u rows ends values place) % m) k_is ∙
-    ap (λ x. x % m) (sym (sum-end u rows ends values place (laid.after place low used) (omega (arith, laid.within place low)))) in
-    ap (λ x. (get_or rows (place * (u + 1) + u) 0 + (m - x)) % m) whole ∙
-    ap (λ x. (x + (m - sum_to u (term u rows ends values place) % m)) % m) (sym (entry-right u rows ends place used low (laid.within place low)))
+-- the words of the row after its own place, up to its end, and the values there
+abbrev pub words_after : (u : ℕ) (rows : List ℕ) (place n : ℕ) → List ℕ
+words_after u rows place n = take n (drop (place * (u + 1) + place + 1) rows)
+
+abbrev pub values_after : (values : List ℕ) (place n : ℕ) → List ℕ
+values_after values place n = take n (drop (place + 1) values)
+
+module _ (m u : ℕ) (rows ends values : List ℕ) (place : ℕ) (laid : IsLaidOut m u rows ends) (low : place < u) (used : get_or ends place 0 ≢ 0) where
+  after : place < get_or ends place 0
+  after = laid.after place low used
+
+  end_low : get_or ends place 0 < u + 1
+  end_low = laid.within place low
+
+  word-after : (n t : ℕ) → n ≡ get_or ends place 0 - (place + 1) → t < n → get_or (words_after u rows place n) t 0 ≡ entry u rows ends place (place + 1 + t)
+  word-after n t n_is t_low =
+      let same : place * (u + 1) + place + 1 + t ≡ place * (u + 1) + (place + 1 + t) = omega arith in
+      get_or-take n (drop (place * (u + 1) + place + 1) rows) t 0 t_low ∙ get_or-drop (place * (u + 1) + place + 1) rows t 0 ∙
+      ap (λ i. get_or rows i 0) same ∙ sym (entry-within u rows ends place (place + 1 + t) used (omega arith) (omega (arith, after)))
+
+  value-after : (n t : ℕ) → t < n → get_or (values_after values place n) t 0 ≡ put place 0 (λ i. get_or values i 0) (place + 1 + t)
+  value-after n t t_low =
+      let other : place + 1 + t ≢ place = omega arith in
+      get_or-take n (drop (place + 1) values) t 0 t_low ∙ get_or-drop (place + 1) values t 0 ∙ sym (put-other place (place + 1 + t) 0 (λ i. get_or values i 0) other)
+
+  length-words_after : (n : ℕ) → n ≡ get_or ends place 0 - (place + 1) → length (words_after u rows place n) ≡ n
+  length-words_after n n_is =
+      omega (arith, length-take n (drop (place * (u + 1) + place + 1) rows), length-drop (place * (u + 1) + place + 1) rows, laid.rows_room, slot_before place u u u low (omega arith), after, end_low)
+
+  pub words-low : (n k : ℕ) → n ≡ get_or ends place 0 - (place + 1) → k < length (words_after u rows place n) → get_or (words_after u rows place n) k 0 < m
+  words-low n k n_is k_low =
+      let within : k < n = omega (arith, length-words_after n n_is) in
+      subst (λ (x : ℕ). x < m) (sym (word-after n k n_is within)) (laid.residues place (place + 1 + k) low (omega (arith, after, end_low)))
+
+  -- the products from there on are the row's whole sum
+  pub sum-after : (n n' : ℕ) → n ≡ get_or ends place 0 - (place + 1) → n' ≡ n →
+      sum_to (length (words_after u rows place n)) (product_at (words_after u rows place n) (values_after values place n')) ≡ sum_to u (term u rows ends values place)
+  sum-after n n' n_is same =
+      let words = words_after u rows place n in
+      let known = values_after values place n' in
+      let whole : place + 1 + n ≡ get_or ends place 0 = omega (arith, after) in
+      ap (λ t. sum_to t (product_at words known)) (length-words_after n n_is) ∙
+      sum-same n (product_at words known) (λ t. term u rows ends values place (place + 1 + t)) (λ t t_low.
+      ap (λ x. x * get_or known t 0) (word-after n t n_is t_low) ∙ ap (λ x. entry u rows ends place (place + 1 + t) * x) (value-after n' t (omega arith))) ∙
+      omega (
+        arith,
+        sum-parts (place + 1) n (term u rows ends values place),
+        sum-start u rows ends values place,
+        ap (λ t. sum_to t (term u rows ends values place)) whole,
+        sum-end u rows ends values place after (omega (arith, end_low)),
+      )
 
 -- from `from` on the rows hold
 pub record SubstitutedFrom (m u : ℕ) (rows ends old now : List ℕ) (from : ℕ) : Type 0 where

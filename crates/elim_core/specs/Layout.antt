@@ -1,7 +1,7 @@
 -- How the words lent to an elimination keep rows.
-use Rattle.std.specs.Prelude.{◌≡◌, ◌≢◌, ℕ, ◌+◌, ◌*◌, ◌<◌, ◌↔◌, ◌==◌, ◌||◌, nat_lt, if◌then◌else◌, List, length, slice_index}
+use Rattle.std.specs.Prelude.{◌≡◌, ◌≢◌, ℕ, ◌+◌, ◌-◌, ◌*◌, ◌<◌, ◌↔◌, ◌==◌, ◌||◌, nat_lt, if◌then◌else◌, List, length, slice_index}
 use Rattle.prime_field.specs.Residue.{IsPrime}
-use Rattle.elim_core.specs.Rows.{Meets, AllMet, IsCut}
+use Rattle.elim_core.specs.Rows.{Meets, AllMet, AreResidues, IsCut}
 use Rattle.elim_core.specs.declared.Rank.{Rank}
 use Rattle.elim_core.specs.declared.Rank.TheVariants.{New, Same, Contradiction}
 use Rattle.elim_core.specs.declared.elimination.Lead.{Lead}
@@ -72,3 +72,21 @@ abbrev pub RowSays : Rank → (m u : ℕ) → (ℕ → ℕ → ℕ) → (ℕ →
 RowSays New m u old now row = IsNewRow m u old now row
 RowSays Same m u old now row = IsSameRow m u old now row
 RowSays Contradiction m u old now row = IsNoRow m u old now row
+
+-- the slots up to a layer keep their ends, and those of later layers are empty
+pub record IsCutBack (u : ℕ) (ends layers : List ℕ) (layer : ℕ) (back : List ℕ) : Type 0 where
+  pub room : length back ≡ u
+  pub kept : (k : ℕ) → k < u → slice_index layers k < layer + 1 → slice_index back k ≡ slice_index ends k
+  pub emptied : (k : ℕ) → k < u → layer < slice_index layers k → slice_index back k ≡ 0
+
+-- the rows are the old ones and further ones, and hold where the old ones do and the first unknowns of the set are 0
+pub record HasZeros (m u : ℕ) (old_rows old_ends rows ends set : List ℕ) (count : ℕ) : Type 0 where
+  pub laid_out : IsLaidOut m u rows ends
+  pub keeps_used : KeepsUsed u old_rows old_ends rows ends
+  pub met : (z : ℕ → ℕ) → AreResidues m u z → (AllMet m u (entry u rows ends) z ↔
+      (AllMet m u (entry u old_rows old_ends) z × ((i : ℕ) → i < count → z (slice_index set i - 1) ≡ 0)))
+
+-- for each layer up to `count`, the rows up to that layer make as many unknowns of the set 0
+abbrev pub IsLayered : (m u : ℕ) → (old_rows old_ends rows ends layers set : List ℕ) → ℕ → Type 0
+IsLayered m u old_rows old_ends rows ends layers set count = (layer : ℕ) (back : List ℕ) → layer < count + 1 →
+    IsCutBack u ends layers layer back → HasZeros m u old_rows old_ends rows back set layer

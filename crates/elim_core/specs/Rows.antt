@@ -88,6 +88,10 @@ Fixes m u old now place value = (z : ℕ → ℕ) → AreResidues m u z → (All
 abbrev pub IsDecided : (m u : ℕ) → (ℕ → ℕ → ℕ) → ℕ → ℕ → Type 0
 IsDecided m u rows place value = (y z : ℕ → ℕ) → AreResidues m u y → AreResidues m u z → AllMet m u rows y → AllMet m u rows z → y place ≡ value → z place ≢ value → ⊥
 
+-- what the constant and the numbers in the columns from `first` on give at the values, in the row of a list that begins at `start`
+abbrev pub told_in : (m : ℕ) → (ℕ → ℕ) → (set out : List ℕ) → ℕ → ℕ → ℕ
+told_in m values set out start first = (sum_to (length set - first) (λ r. slice_index out (start + (first + r)) * values (slice_index set (first + r) - 1)) + slice_index out (start + length set)) % m
+
 -- the list has, for each wanted unknown, the multiples for the unknowns of the set and then the constant
 pub record IsSolvedList (m u : ℕ) (rows : ℕ → ℕ → ℕ) (set want out : List ℕ) : Type 0 where
   pub c : ℕ → ℕ → ℕ

@@ -1,16 +1,16 @@
-//! The solution for a choice of some unknowns, found by keeping a further row for each of them.
+//! Values that are given to unknowns: where no row is kept, and by a further row for each unknown of a set.
 
 ghost use Rattle.std.specs.Prelude.{◌≡◌, ◌≢◌, ℕ, ◌+◌, ◌-◌, ◌<◌, ◌≤◌, ◌↔◌, length, slice_index, IsTrue};
 ghost use Rattle.std.specs.Bool.{OnTrue, OnFalse};
 ghost use Rattle.prime_field.specs.Modulus.{value_of};
 ghost use Rattle.prime_field.specs.Residue.{IsPrime};
-ghost use Rattle.elim_core.specs.Rows.{AllMet, AreResidues, IsChoice, IsUntold, chosen_value, Fixes, IsDecided};
-ghost use Rattle.elim_core.specs.Layout.{entry, IsLaidOut, IsCleared, KeepsUsed};
+ghost use Rattle.elim_core.specs.Rows.{IsUntold, chosen_value, Fixes, IsDecided};
+ghost use Rattle.elim_core.specs.Layout.{entry, IsLaidOut, IsCleared, KeepsUsed, HasZeros, IsLayered};
 ghost use Rattle.elim_core.specs.Solver.{has_number, IsAscending, AreUnknowns};
 
 use crate::Rank;
 use crate::elimination::{Lead, absorb_row};
-use crate::substitution::back_substitute;
+use crate::layers::mark_empty;
 use prime_field::Modulus;
 
 /// Writes a zero to each word.
@@ -42,7 +42,7 @@ pub fn write_choice(values: &mut [u64], chosen: u32)
 }
 
 /// Keeps a row that gives the unknown at `place` the value, or answers false where that cuts no solutions or leaves none.
-fn fix(
+pub fn fix(
     modulus: Modulus,
     unknowns: usize,
     rows: &mut [u64],
@@ -84,89 +84,41 @@ fn are_used(ends: &[u64]) -> bool
     ends.iter().all(|end| *end != 0)
 }
 
-/// Keeps a row for each unknown of the set, which gives it 1 where it is the chosen one and else 0. Answers whether each
-/// cut solutions and just one is left.
-fn choose(
+/// Keeps a row for each unknown of the set, which gives it 0, and notes the layer in which each slot is filled: 0 before the
+/// first of these rows, and then one for each of them. Answers whether each cut solutions and just one is left.
+pub fn choose(
     modulus: Modulus,
     unknowns: usize,
     rows: &mut [u64],
     ends: &mut [u64],
     row: &mut [u64],
+    layers: &mut [u64],
     set: &[u32],
-    chosen: u32,
 ) -> bool
     requires few { unknowns ≤ 4096 }
     requires laid_out { IsLaidOut (value_of modulus) unknowns rows.old ends.old }
     requires cleared { IsCleared unknowns row.old }
+    requires layers_room { length layers.old ≡ unknowns }
     requires ascending { IsAscending set.now }
     requires unknowns { AreUnknowns unknowns set.now }
     ensures laid_out { IsLaidOut (value_of modulus) unknowns rows.new ends.new }
     ensures keeps_used { KeepsUsed unknowns rows.old ends.old rows.new ends.new }
     ensures cleared { IsCleared unknowns row.new }
-    ensures met { OnTrue result ((z : ℕ → ℕ) → AreResidues (value_of modulus) unknowns z →
-        (AllMet (value_of modulus) unknowns (entry unknowns rows.new ends.new) z
-        ↔ (AllMet (value_of modulus) unknowns (entry unknowns rows.old ends.old) z
-        × ((i : ℕ) → i < length set.now →
-        z (slice_index set.now i - 1) ≡ chosen_value chosen (slice_index set.now i))))) }
+    ensures layers_room { length layers.new ≡ unknowns }
+    ensures zeros { OnTrue result (HasZeros (value_of modulus) unknowns rows.old ends.old rows.new ends.new
+        set.now (length set.now)) }
+    ensures layered { OnTrue result (IsLayered (value_of modulus) unknowns rows.old ends.old rows.new ends.new
+        layers.new set.now (length set.now)) }
     ensures used { OnTrue result ((k : ℕ) → k < unknowns → slice_index ends.new k ≢ 0) }
     ensures undefined { OnFalse result (IsPrime (value_of modulus)
         → IsUntold (value_of modulus) unknowns (entry unknowns rows.old ends.old) (λ k. has_number set.now (k + 1))) }
 {
-    for number in set {
-        if !fix(
-            modulus,
-            unknowns,
-            rows,
-            ends,
-            row,
-            *number as usize - 1,
-            value_for(*number, chosen),
-        ) {
+    zero_all(layers);
+    for (i, number) in set.iter().enumerate() {
+        mark_empty(ends, layers, i as u64 + 1);
+        if !fix(modulus, unknowns, rows, ends, row, *number as usize - 1, 0) {
             return false;
         }
     }
     are_used(ends)
-}
-
-/// Writes the one solution at which the chosen unknown of the set is 1 and the others are 0, or answers false where the set
-/// doesn't tell the solutions. The kept rows stay what they are.
-pub fn solve_choice(
-    modulus: Modulus,
-    unknowns: usize,
-    rows: &mut [u64],
-    ends: &mut [u64],
-    row: &mut [u64],
-    saved: &mut [u64],
-    values: &mut [u64],
-    set: &[u32],
-    chosen: u32,
-) -> bool
-    requires few { unknowns ≤ 4096 }
-    requires laid_out { IsLaidOut (value_of modulus) unknowns rows.old ends.old }
-    requires cleared { IsCleared unknowns row.old }
-    requires saved_room { length saved.old ≡ unknowns }
-    requires values_room { length values.old ≡ unknowns }
-    requires ascending { IsAscending set.now }
-    requires unknowns { AreUnknowns unknowns set.now }
-    ensures laid_out { IsLaidOut (value_of modulus) unknowns rows.new ends.new }
-    ensures cleared { IsCleared unknowns row.new }
-    ensures same { (j k : ℕ) → j < unknowns → k < unknowns + 1 →
-        entry unknowns rows.new ends.new j k ≡ entry unknowns rows.old ends.old j k }
-    ensures found { OnTrue result (IsChoice (value_of modulus) unknowns (entry unknowns rows.old ends.old)
-        (λ k. has_number set.now (k + 1)) (λ k. chosen_value chosen (k + 1)) (slice_index values.new)) }
-    ensures only { OnTrue result ((y : ℕ → ℕ) → IsChoice (value_of modulus) unknowns (entry unknowns rows.old ends.old)
-        (λ k. has_number set.now (k + 1)) (λ k. chosen_value chosen (k + 1)) y →
-        (j : ℕ) → j < unknowns → y j ≡ slice_index values.new j) }
-    ensures undefined { OnFalse result (IsPrime (value_of modulus)
-        → IsUntold (value_of modulus) unknowns (entry unknowns rows.old ends.old) (λ k. has_number set.now (k + 1))) }
-{
-    saved.copy_from_slice(ends);
-    zero_all(values);
-    if !choose(modulus, unknowns, rows, ends, row, set, chosen) {
-        ends.copy_from_slice(saved);
-        return false;
-    }
-    back_substitute(modulus, unknowns, rows, ends, values);
-    ends.copy_from_slice(saved);
-    true
 }

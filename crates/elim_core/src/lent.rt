@@ -227,8 +227,9 @@ pub fn solve_loaned(
     let (ends, rest) = rest.split_at_mut(unknowns);
     let (work, rest) = rest.split_at_mut(unknowns + 1);
     let (saved, rest) = rest.split_at_mut(unknowns);
+    let (layers, rest) = rest.split_at_mut(unknowns);
     let (values, _) = rest.split_at_mut(unknowns);
     solve_parts(
-        modulus, unknowns, rows, ends, work, saved, values, set, want, out,
+        modulus, unknowns, rows, ends, work, saved, layers, values, set, want, out,
     )
 }

@@ -19,10 +19,15 @@ use prime_field::Modulus;
 use sqlite_items::Items;
 
 mod choice;
+mod dot;
 mod elimination;
+mod group;
 pub mod laws;
+mod layers;
 mod lent;
+mod slots;
 mod solver;
+mod span;
 mod substitution;
 
 use choice::write_choice;

@@ -6,6 +6,7 @@ ghost use Rattle.prime_field.specs.Sum.{sum_to};
 ghost use Rattle.elim_core.specs.Rows.{AllMet, put};
 ghost use Rattle.elim_core.specs.Layout.{entry, IsLaidOut};
 
+use crate::dot::dot;
 use prime_field::Modulus;
 
 /// The value that the row at `place` leaves for its unknown, given the later ones.
@@ -29,10 +30,9 @@ fn solved(
         % value_of modulus)) % value_of modulus }
 {
     let start = place * (unknowns + 1);
-    let mut sum = 0;
-    for k in place + 1..ends[place] as usize {
-        sum = modulus.add(sum, modulus.mul(rows[start + k], values[k]));
-    }
+    let end = ends[place] as usize;
+    let words = &rows[start + place + 1..start + end];
+    let sum = dot(modulus, words, &values[place + 1..end]);
     modulus.sub(rows[start + unknowns], sum)
 }
 

@@ -109,6 +109,116 @@ fn other_unknowns_may_tell_but_not_too_few(rt: HostRuntime) {
     );
 }
 
+/// Four equations over seven unknowns, of which the first four are told by the others; here unknowns 1, 3 and 6 tell.
+fn check_three_of_seven(rt: &impl Abort, modulus: Modulus, told: [u64; 12], fourth: [u64; 4]) {
+    let mut words = [7; 99];
+    let mut elim = Elim::start(modulus, 7, &mut words);
+    assert_eq!(rt;
+        elim.absorb(&mut words, &[1, 2, 0, 3, 1, 4, 2, 5]),
+        Rank::New
+    );
+    assert_eq!(rt;
+        elim.absorb(&mut words, &[0, 1, 3, 1, 0, 2, 7, 1]),
+        Rank::New
+    );
+    assert_eq!(rt;
+        elim.absorb(&mut words, &[2, 0, 1, 1, 5, 0, 3, 8]),
+        Rank::New
+    );
+    assert_eq!(rt;
+        elim.absorb(&mut words, &[1, 1, 1, 0, 2, 1, 1, 6]),
+        Rank::New
+    );
+    let mut out = [7; 12];
+    assert!(rt; elim.solve_over(&mut words, &[1, 3, 6], &[2, 6, 5], &mut out));
+    assert_eq!(rt; out, told);
+    let mut one = [7; 4];
+    assert!(rt; elim.solve_over(&mut words, &[1, 3, 6], &[4], &mut one));
+    assert_eq!(rt; one, fourth);
+}
+
+#[test]
+fn three_other_unknowns_of_seven_tell(rt: HostRuntime) {
+    check_three_of_seven(
+        &rt,
+        Modulus::first(),
+        [
+            512409557603043100,
+            1024819115206086200,
+            512409557603043099,
+            1024819115206086203,
+            0,
+            0,
+            1,
+            0,
+            945986875574848800,
+            118248359446856100,
+            2010222110596553701,
+            472993437787424402,
+        ],
+        [
+            177372539170284150,
+            886862695851420751,
+            1241607774191989050,
+            1241607774191989050,
+        ],
+    );
+    check_three_of_seven(
+        &rt,
+        Modulus::second(),
+        [
+            2049638230412172396,
+            4099276460824344792,
+            2049638230412172395,
+            4099276460824344795,
+            0,
+            0,
+            1,
+            0,
+            5202927815661668390,
+            7567895004598790386,
+            8750378599067351384,
+            2601463907830834197,
+        ],
+        [
+            2128470470043409796,
+            1418980313362273198,
+            5675921253449092789,
+            5675921253449092789,
+        ],
+    );
+}
+
+#[test]
+fn unknowns_that_follow_from_each_other_do_not_tell(rt: HostRuntime) {
+    let mut words = [7; 99];
+    let mut elim = Elim::start(Modulus::first(), 7, &mut words);
+    let _second = elim.absorb_entries(&mut words, &[0, 2, 4], &[1, 1, 2305843009213693948]);
+    let _first = elim.absorb(&mut words, &[1, 2, 0, 3, 1, 4, 2, 5]);
+    let _third = elim.absorb(&mut words, &[0, 1, 3, 1, 0, 2, 7, 1]);
+    let _fourth = elim.absorb(&mut words, &[2, 0, 1, 1, 5, 0, 3, 8]);
+    let mut list = [7; 8];
+    assert!(rt; !elim.solve_over(&mut words, &[2, 4, 6], &[1, 4], &mut list));
+    let mut long = [7; 5];
+    assert!(rt; !elim.solve_over(&mut words, &[1, 2, 3, 6], &[5], &mut long));
+    let mut short = [7; 3];
+    assert!(rt; !elim.solve_over(&mut words, &[1, 6], &[5], &mut short));
+    assert!(rt; elim.solve_over(&mut words, &[2, 3, 6], &[1, 4], &mut list));
+    assert_eq!(rt;
+        list,
+        [
+            1024819115206086196,
+            1537228672809129302,
+            2305843009213693945,
+            512409557603043107,
+            1537228672809129301,
+            0,
+            0,
+            768614336404564650
+        ]
+    );
+}
+
 #[test]
 fn rows_by_their_entries(rt: HostRuntime) {
     let mut words = [7; 24];
@@ -138,6 +248,86 @@ fn rows_that_follow_each_other_are_taken_at_once(rt: HostRuntime) {
     let mut out = [7; 4];
     assert!(rt; elim.solve_over(&mut words, &[], &[1, 2, 3, 4], &mut out));
     assert_eq!(rt; out, [1, 2, 3, 4]);
+}
+
+/// Nine equations in nine unknowns, none of whose entries is 0: row by row, up to eight kept rows are taken, in groups of four
+/// and of what is left over.
+fn check_dense(rt: &impl Abort, modulus: Modulus, expected: [u64; 9]) {
+    let mut words = [7; 143];
+    let mut elim = Elim::start(modulus, 9, &mut words);
+    assert_eq!(rt;
+        elim.absorb(&mut words, &[3, 1, 4, 1, 5, 9, 2, 6, 5, 3]),
+        Rank::New
+    );
+    assert_eq!(rt;
+        elim.absorb(&mut words, &[5, 8, 9, 7, 9, 3, 2, 3, 8, 4]),
+        Rank::New
+    );
+    assert_eq!(rt;
+        elim.absorb(&mut words, &[6, 2, 6, 4, 3, 3, 8, 3, 2, 7]),
+        Rank::New
+    );
+    assert_eq!(rt;
+        elim.absorb(&mut words, &[9, 5, 2, 8, 8, 4, 1, 9, 7, 1]),
+        Rank::New
+    );
+    assert_eq!(rt;
+        elim.absorb(&mut words, &[6, 9, 3, 9, 9, 3, 7, 5, 1, 5]),
+        Rank::New
+    );
+    assert_eq!(rt;
+        elim.absorb(&mut words, &[8, 2, 9, 7, 4, 9, 4, 4, 5, 9]),
+        Rank::New
+    );
+    assert_eq!(rt;
+        elim.absorb(&mut words, &[2, 3, 7, 8, 1, 6, 4, 6, 2, 8]),
+        Rank::New
+    );
+    assert_eq!(rt;
+        elim.absorb(&mut words, &[6, 2, 8, 9, 9, 8, 6, 2, 8, 3]),
+        Rank::New
+    );
+    assert_eq!(rt;
+        elim.absorb(&mut words, &[4, 8, 2, 5, 3, 4, 2, 1, 1, 7]),
+        Rank::New
+    );
+    let mut out = [7; 9];
+    assert!(rt; elim.solve_over(&mut words, &[], &[1, 2, 3, 4, 5, 6, 7, 8, 9], &mut out));
+    assert_eq!(rt; out, expected);
+}
+
+#[test]
+fn a_dense_system_is_taken_in_groups(rt: HostRuntime) {
+    check_dense(
+        &rt,
+        Modulus::first(),
+        [
+            279781973645653226,
+            371890987967058120,
+            78323041720789670,
+            950454348674300906,
+            116646197941809731,
+            1126885234449143417,
+            609188206518447114,
+            1024671672149540337,
+            37199822555258504,
+        ],
+    );
+    check_dense(
+        &rt,
+        Modulus::second(),
+        [
+            6547309092190594833,
+            8147577883760034186,
+            991138372715980488,
+            7599556745364476844,
+            4419108691378611306,
+            1874359722431806438,
+            6920744602967231380,
+            8924593931671320628,
+            373300687674898810,
+        ],
+    );
 }
 
 /// The first independent unknown of three, with its number in what tells the unknown `j`.
