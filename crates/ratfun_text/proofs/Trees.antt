@@ -1,24 +1,11 @@
 -- Lemmas on the value of an expression and on the places that it uses.
-use Rattle.std.proofs.Common.{◌≡◌, ℕ, zero, suc, ◌<◌, ◌≤◌, ◌+◌, ◌-◌, ◌*◌, ◌%◌, ◌^◌, Bool, if◌then◌else◌, List, [], ◌∷◌, length, drop, get_or, Option, Some, add-one, drop-cons, sym, ap, subst, ◌∙◌, arith}
-use Rattle.std.specs.Option.{option_map, option_and_then}
-use Rattle.std.proofs.Math.Nat.{le-max_left, le-max_right}
+use Rattle.std.proofs.Common.{◌≡◌, ℕ, suc, ◌<◌, ◌+◌, ◌*◌, ◌%◌, Bool, List, ◌∷◌, length, drop, get_or, Some, add-one, drop-cons, sym, ap, ◌∙◌}
+use Rattle.std.specs.Option.{option_and_then}
 use Rattle.ratfun_text.specs.declared.expr.Expr.{Expr}
 use Rattle.ratfun_text.specs.declared.expr.Expr.TheOpen.{Expr-F}
 use Rattle.ratfun_text.specs.declared.expr.Expr.TheFolds.{fold-roll-Expr}
 use Rattle.ratfun_text.specs.declared.expr.Expr.TheVariants as e
-use Rattle.ratfun_text.specs.Value.{sum_from, factor, product_from, value_step, value, valued, greatest_step, greatest, greatest_of, placed}
-
-pub value_sum : (m : ℕ) (args : List ℕ) (parts : List (Bool × Expr)) → value m args (e.Sum parts) ≡ sum_from m 0 (valued m args parts)
-value_sum m args parts = ap (value m args) (sym (e.rolls-Sum parts)) ∙ fold-roll-Expr (Option ℕ) (value_step m args) (Expr-F.Sum parts)
-
-pub value_product : (m : ℕ) (args : List ℕ) (parts : List (Bool × Expr)) → value m args (e.Prod parts) ≡ product_from m 1 (valued m args parts)
-value_product m args parts = ap (value m args) (sym (e.rolls-Prod parts)) ∙ fold-roll-Expr (Option ℕ) (value_step m args) (Expr-F.Prod parts)
-
-pub value_negative : (m : ℕ) (args : List ℕ) (part : Expr) → value m args (e.Neg part) ≡ option_map (λ v. (m - v) % m) (value m args part)
-value_negative m args part = ap (value m args) (sym (e.rolls-Neg part)) ∙ fold-roll-Expr (Option ℕ) (value_step m args) (Expr-F.Neg part)
-
-pub value_power : (m : ℕ) (args : List ℕ) (base : Expr) (exponent : ℕ) → value m args (e.Pow base exponent) ≡ option_map (λ v. (v ^ exponent) % m) (value m args base)
-value_power m args base exponent = ap (value m args) (sym (e.rolls-Pow base exponent)) ∙ fold-roll-Expr (Option ℕ) (value_step m args) (Expr-F.Pow base exponent)
+use Rattle.ratfun_text.specs.Value.{factor, product_from, value, valued, greatest_step, greatest, greatest_of, placed}
 
 pub greatest_negative : (part : Expr) → greatest (e.Neg part) ≡ greatest part
 greatest_negative part = ap greatest (sym (e.rolls-Neg part)) ∙ fold-roll-Expr ℕ greatest_step (Expr-F.Neg part)
@@ -39,31 +26,14 @@ pub greatest_product : (parts : List (Bool × Expr)) → greatest (e.Prod parts)
 greatest_product parts = ap greatest (sym (e.rolls-Prod parts)) ∙ fold-roll-Expr ℕ greatest_step (Expr-F.Prod parts)
 
 -- the parts from a place on, with their values: first the part there
-valued-drop : (m : ℕ) (args : List ℕ) (parts : List (Bool × Expr)) (i : ℕ) (part : Bool × Expr) → i < length parts → part ≡ get_or parts i part
+pub valued-drop : (m : ℕ) (args : List ℕ) (parts : List (Bool × Expr)) (i : ℕ) (part : Bool × Expr) → i < length parts → part ≡ get_or parts i part
     → valued m args (drop i parts) ≡ (part.0, value m args part.1) ∷ valued m args (drop (i + 1) parts)
 valued-drop m args parts i part within is =
     let first : drop i parts ≡ get_or parts i part ∷ drop (suc i) parts = drop-cons parts i part within in
     ap (valued m args) (first ∙ ap (λ p. p ∷ drop (suc i) parts) (sym is) ∙ ap (λ k. part ∷ drop k parts) (sym (add-one i)))
-
-pub sum_step : (m : ℕ) (args : List ℕ) (parts : List (Bool × Expr)) (i : ℕ) (part : Bool × Expr) (total v : ℕ) → i < length parts → part ≡ get_or parts i part → value m args part.1 ≡ Some v
-    → sum_from m total (valued m args (drop i parts)) ≡ sum_from m ((total + (if part.0 then m - v else v)) % m) (valued m args (drop (i + 1) parts))
-sum_step m args parts i part total v within is has =
-    let rest = valued m args (drop (i + 1) parts) in
-    ap (sum_from m total) (valued-drop m args parts i part within is) ∙ ap (option_and_then (λ n. sum_from m ((total + (if part.0 then m - n else n)) % m) rest)) has
 
 pub product_step : (m : ℕ) (args : List ℕ) (parts : List (Bool × Expr)) (i : ℕ) (part : Bool × Expr) (total v : ℕ) → i < length parts → part ≡ get_or parts i part → value m args part.1 ≡ Some v
     → product_from m total (valued m args (drop i parts)) ≡ option_and_then (λ n. product_from m ((total * n) % m) (valued m args (drop (i + 1) parts))) (factor m part.0 v)
 product_step m args parts i part total v within is has =
     let rest = valued m args (drop (i + 1) parts) in
     ap (product_from m total) (valued-drop m args parts i part within is) ∙ ap (λ o. option_and_then (λ n. product_from m ((total * n) % m) rest) (option_and_then (factor m part.0) o)) has
-
--- a part uses no place above the greatest of the parts'
-greatest_at : (parts : List (Bool × Expr)) (i : ℕ) (d : Bool × Expr) → i < length parts → greatest (get_or parts i d).1 ≤ greatest_of (placed parts)
-greatest_at [] i d within = absurd (omega arith)
-greatest_at (part ∷ rest) zero d within = le-max_left (greatest part.1) (greatest_of (placed rest))
-greatest_at (part ∷ rest) (suc i) d within =
-    let later : greatest (get_or rest i d).1 ≤ greatest_of (placed rest) = greatest_at rest i d (omega arith) in
-    omega (arith, le-max_right (greatest part.1) (greatest_of (placed rest)))
-
-pub greatest_part : (parts : List (Bool × Expr)) (i : ℕ) (part : Bool × Expr) → i < length parts → part ≡ get_or parts i part → greatest part.1 ≤ greatest_of (placed parts)
-greatest_part parts i part within is = subst (λ (p : Bool × Expr). greatest p.1 ≤ greatest_of (placed parts)) (sym is) (greatest_at parts i part within)

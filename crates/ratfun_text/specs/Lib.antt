@@ -4,6 +4,7 @@ pub mod Grammar
 pub mod Keys
 pub mod Names
 pub mod Parts
+pub mod Powers
 pub mod Printed
 pub mod Reading
 pub mod Tokens

@@ -5,7 +5,7 @@ ghost use Rattle.ratfun_text.specs.Printed.{AreVariables, IsIn};
 
 use crate::{
     Expr, ExprError, ExprKind, Name, Names, QuotientError, Text, parse_expr, print_mono,
-    print_quotient, read_quotient,
+    print_quotient, read_quotient, values_into,
 };
 use poly_maps::{Frac, Mono};
 use prime_field::Modulus;
@@ -28,6 +28,13 @@ fn value(rt: &impl Abort, e: &Expr, m: Modulus, args: &[u64]) -> Option<u64> {
     assert!(rt; e.greatest() as usize <= args.len());
     assert!(rt; args.iter().all(|a| *a < m.value()));
     e.value(m, args)
+}
+
+fn values(rt: &impl Abort, exprs: &[Expr], m: Modulus, args: &[u64], out: &mut [u64]) -> bool {
+    assert!(rt; exprs.len() == out.len());
+    assert!(rt; exprs.iter().all(|e| e.greatest() as usize <= args.len()));
+    assert!(rt; args.iter().all(|a| *a < m.value()));
+    values_into(exprs, m, args, out)
 }
 
 /// The tree of the text in the names `x` and `y`.
@@ -145,6 +152,74 @@ fn a_divisor_without_an_inverse_leaves_no_value(rt: HostRuntime) -> Result<(), F
     ] {
         let e = parsed(rt.alloc(), text)?;
         assert_eq!(rt; value(&rt, &e, Modulus::First, &[3, 5]), None);
+    }
+    Ok(())
+}
+
+#[test]
+fn values_of_a_list_at_both_moduli(rt: HostRuntime) -> Result<(), Fail> {
+    let mut exprs = Items::new(rt.alloc());
+    for text in [
+        b"x^31 + x^32 - x^200*y^31".as_slice(),
+        b"(x+y)^200".as_slice(),
+        b"x^2 + x^66 - x^2*y^1 + x^17*y^1 - y^18*x^34".as_slice(),
+        b"5/x/y*x/(y-3)/7^2".as_slice(),
+        b"1/x/y^3 - x^3/6/x^3 + 1/2/3".as_slice(),
+        b"12*x^5 - 7*x^4*y + 3*x^4 - x^3*y^2 + 9*x^2*y^3 - x^2*y + 4*x*y^4 - 8*x + y^5 - 6*y^2 + 340282366920938463463374607431768211455".as_slice(),
+        b"-x".as_slice(),
+        b"77".as_slice(),
+    ] {
+        exprs.push(parsed(rt.alloc(), text)?)?;
+    }
+    for (m, want) in [
+        (
+            Modulus::First,
+            [
+                368675024054324468,
+                583146988059258389,
+                2046982759046611862,
+                2078785113143691795,
+                1540897661854045747,
+                2026299622567704629,
+                1071275119090237162,
+                77,
+            ],
+        ),
+        (
+            Modulus::Second,
+            [
+                5951876209844507881,
+                891585230979926838,
+                7010268052651047118,
+                6807472386067224777,
+                8643138607466714833,
+                1434300766610792337,
+                7988804146731318994,
+                77,
+            ],
+        ),
+    ] {
+        let args = [1234567890123456789, 987654321987654321];
+        let mut out = [0; 8];
+        assert!(rt; values(&rt, exprs.as_slice(), m, &args, &mut out));
+        assert_eq!(rt; out, want);
+        for (place, expr) in exprs.as_slice().iter().enumerate() {
+            assert_eq!(rt; value(&rt, expr, m, &args), out.get(place).copied());
+        }
+    }
+    Ok(())
+}
+
+#[test]
+fn a_list_has_no_values_where_one_of_it_has_none(rt: HostRuntime) -> Result<(), Fail> {
+    for text in [b"1/(x-3)".as_slice(), b"x/y/(x-3)/2".as_slice()] {
+        let mut exprs = Items::new(rt.alloc());
+        exprs.push(parsed(rt.alloc(), b"x")?)?;
+        exprs.push(parsed(rt.alloc(), text)?)?;
+        exprs.push(parsed(rt.alloc(), b"y")?)?;
+        let mut out = [0; 3];
+        assert!(rt; !values(&rt, exprs.as_slice(), Modulus::First, &[3, 5], &mut out));
+        assert!(rt; values(&rt, exprs.as_slice(), Modulus::First, &[4, 5], &mut out));
     }
     Ok(())
 }
