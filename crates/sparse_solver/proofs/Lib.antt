@@ -1,5 +1,6 @@
 pub mod Absorbed
 pub mod Bridge
+pub mod Folded
 pub mod Leads
 pub mod Orders
 pub mod PackedRows

@@ -1,5 +1,5 @@
 -- Sums of packed rows, and of the row at hand while they are added to it and taken from it.
-use Rattle.std.proofs.Common.{◌≡◌, ℕ, ◌+◌, ◌*◌, ◌%◌, ◌<◌, List, length, get_or, set, inl, inr, refl, sym, ◌∙◌, ap, add-one, length-set, arith}
+use Rattle.std.proofs.Common.{◌≡◌, ℕ, ◌+◌, ◌*◌, ◌%◌, ◌<◌, List, length, get_or, set, inl, inr, refl, sym, ◌∙◌, ap, subst, add-one, length-set, arith}
 use Rattle.std.proofs.lemmas.Bool.{cases_eq}
 use Rattle.std.proofs.lemmas.List.{get_or-set_same, get_or-set_other}
 use Rattle.std.proofs.Math.Nat.{mod-mod, zero-mod}
@@ -14,13 +14,9 @@ use Rattle.sparse_solver.specs.Packed.{IsOutside, IsRowAt, packed_sum, row_sum, 
 pub sum-more : (n : ℕ) (f : ℕ → ℕ) → sum_to (n + 1) f ≡ sum_to n f + f n
 sum-more n f = ap (λ k. sum_to k f) (add-one n)
 
--- two more terms were added to a residue
-pub summed_two : (m n before now : ℕ) (f : ℕ → ℕ) → now ≡ (before + (f n + f (n + 1))) % m → before % m ≡ sum_to n f % m → now % m ≡ sum_to (n + 2) f % m
-summed_two m n before now f is so_far =
-    let last : sum_to (n + 2) f ≡ sum_to (n + 1) f + f (n + 1) = ap (λ k. sum_to k f) (omega arith) ∙ sum-more (n + 1) f in
-    ap (λ t. t % m) is ∙ mod-mod (before + (f n + f (n + 1))) m ∙
-    add-cong m before (sum_to n f) (f n + f (n + 1)) (f n + f (n + 1)) so_far refl ∙
-    ap (λ t. t % m) (omega (arith, last, sum-more n f))
+-- one more term was added
+pub summed_more : (m n before now : ℕ) (f : ℕ → ℕ) → now % m ≡ (before + f n) % m → before % m ≡ sum_to n f % m → now % m ≡ sum_to (n + 1) f % m
+summed_more m n before now f is so_far = is ∙ add-cong m before (sum_to n f) (f n) (f n) so_far refl ∙ ap (λ t. t % m) (sym (sum-more n f))
 
 -- the row at hand with another word in one column
 pub row_sum-set : (row : List ℕ) (k x : ℕ) (w : ℕ → ℕ) → k < length row → row_sum (set row k x) w + get_or row k 0 * w k ≡ row_sum row w + x * w k
@@ -67,6 +63,14 @@ taken_more first row columns values i w low room so_far =
       row_sum-set row (get_or columns i 0) 0 w low,
       sum-more i (λ k. get_or (set values i word) k 0 * w (get_or columns k 0)),
     )
+
+-- one more word below m was taken
+pub below_more : (m : ℕ) (values : List ℕ) (i x : ℕ) → i < length values → x < m → ((k : ℕ) → k < i → get_or values k 0 < m) → (k : ℕ) → k < i + 1 → get_or (set values i x) k 0 < m
+below_more m values i x room low so_far k k_low =
+    elim (cases_eq k i) [
+      | inl last ↦ subst (λ (y : ℕ). y < m) (sym (ap (λ n. get_or (set values i x) n 0) last ∙ get_or-set_same values i x 0 room)) low
+      | inr other ↦ subst (λ (y : ℕ). y < m) (sym (get_or-set_other values i k x 0 other)) (so_far k (omega (arith, other)))
+    ]
 
 -- a zero more, and zeros stay
 pub cleared_more : (row columns : List ℕ) (i : ℕ) → get_or columns i 0 < length row → ((k : ℕ) → k < i → get_or row (get_or columns k 0) 0 ≡ 0) → (k : ℕ) → k < i + 1 → get_or (set row (get_or columns i 0) 0) (get_or columns k 0) 0 ≡ 0

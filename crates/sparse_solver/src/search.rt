@@ -6,7 +6,7 @@ ghost use Rattle.sparse_solver.specs.Order.{AreStarts, TakesEach};
 ghost use Rattle.sparse_solver.specs.Steps.{AreSteps};
 
 use crate::learned::are_steps;
-use crate::packed::{add_product, row_at};
+use crate::packed::row_at;
 use crate::replay::factor_of;
 use crate::steps::Steps;
 use elim_core::SparseRow;
@@ -25,7 +25,7 @@ struct KeptRow {
 /// Adds the value times the factor to the word in a column, which has been met from then on.
 fn meet(m: Modulus, row: &mut [Option<u64>], column: u32, value: u64, factor: u64) {
     if let Some(word) = row.get_mut(column as usize) {
-        *word = Some(add_product(m, word.unwrap_or(0), factor, value));
+        *word = Some(m.reduce_u128(word.unwrap_or(0) as u128 + factor as u128 * value as u128));
     }
 }
 
@@ -38,7 +38,7 @@ fn meet_all(m: Modulus, row: &mut [Option<u64>], columns: &[u32], values: &[u64]
 
 /// Adds so much of a kept row that nothing of the word is left where it begins.
 fn meet_kept(m: Modulus, row: &mut [Option<u64>], kept: &KeptRow, word: u64) {
-    let factor = add_product(m, 0, word, kept.factor);
+    let factor = m.reduce_u128(word as u128 * kept.factor as u128);
     for (column, value) in &kept.entries {
         meet(m, row, *column, *value, factor);
     }

@@ -1,6 +1,6 @@
 //! The steps that a plan has learned.
 
-ghost use Rattle.std.specs.Prelude.{◌≡◌, ℕ, ◌+◌, ◌<◌, length};
+ghost use Rattle.std.specs.Prelude.{◌≡◌, ℕ, ◌+◌, ◌<◌, All, length};
 ghost use Rattle.sparse_solver.specs.Packed.{AreColumns};
 ghost use Rattle.sparse_solver.specs.Steps.{AreShaped, head_of, kept_in, part_of};
 
@@ -53,6 +53,7 @@ pub fn kept_values<'a>(unknowns: usize, steps: &Steps, kept: &'a [u64], turn: us
     requires room { length kept.now ≡ length steps.now.columns.items }
     ensures part { result.now ≡ part_of steps.now turn kept.now }
     ensures room { length result.now ≡ length (part_of steps.now turn steps.now.columns.items) }
+    ensures below { (m : ℕ) → All (λ x. x < m) kept.now → All (λ x. x < m) result.now }
 {
     &kept[steps.leads[turn]..steps.starts[turn + 1]]
 }

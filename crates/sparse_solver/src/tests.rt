@@ -7,7 +7,7 @@ ghost use Rattle.sparse_solver.specs.Plan.{IsLearned, set_of};
 
 use super::*;
 use elim_core::SparseRow;
-use prime_field::Modulus;
+use prime_field::{Modulus, sequence};
 use sqlite_items::Items;
 use std::alloc::Global;
 use std::process::Abort;
@@ -141,5 +141,66 @@ fn both_ways_to_solve_agree(rt: HostRuntime) -> Result<(), Fail> {
     assert_eq!(rt; both(&plan, &[1, 1, 0, 1, 1, last, 0, 0]), Some(false));
     assert_eq!(rt; both(&plan, &[1, 1, 1, 1, 1, 1, 0, 0]), Some(false));
     assert_eq!(rt; both(&plan, &[1, 1, 1, 1, 1, last, 1, 0]), Some(false));
+    Ok(())
+}
+
+/// The values of four rows of which the third one follows from the first two.
+fn following_values(m: Modulus, first: (u64, u64), second: (u64, u64)) -> [u64; 8]
+    requires a { first.0 < value_of m }
+    requires b { first.1 < value_of m }
+    requires c { second.0 < value_of m }
+    requires d { second.1 < value_of m }
+    ensures { All (λ x. x < value_of m) result }
+{
+    let (a, b) = first;
+    let (c, d) = second;
+    [a, b, c, d, m.mul(a, c), m.neg(m.mul(b, d)), 0, 0]
+}
+
+/// The residue of the word of this number.
+fn residue_of(m: Modulus, number: u32) -> u64
+    requires { number < 65536 }
+    ensures { result < value_of m }
+{
+    m.reduce_u128(sequence(number) as u128)
+}
+
+#[test]
+fn random_systems_are_solved_alike_both_ways(rt: HostRuntime) -> Result<(), Fail> {
+    let mut plan = four_rows(rt.alloc())?;
+    let m = Modulus::first();
+    let Some(set) = plan.learn(m, &following_values(m, (1, 1), (1, 1)))? else {
+        return Err(Fail::from("nothing is learned"));
+    };
+    if set.len() != 1 {
+        return Err(Fail::from("another set"));
+    }
+    for k in 0..50 {
+        let (a, b) = (residue_of(m, 4 * k), residue_of(m, 4 * k + 1));
+        let (c, d) = (residue_of(m, 4 * k + 2), residue_of(m, 4 * k + 3));
+        assert_eq!(rt;
+            both(&plan, &following_values(m, (a, b), (c, d))),
+            Some(true)
+        );
+        assert_eq!(rt;
+            both(&plan, &following_values(m, (a, 0), (c, d))),
+            Some(true)
+        );
+        assert_eq!(rt;
+            both(&plan, &following_values(m, (a, b), (c, 0))),
+            Some(true)
+        );
+        assert_eq!(rt;
+            both(&plan, &following_values(m, (0, b), (c, d))),
+            Some(false)
+        );
+        assert_eq!(rt;
+            both(&plan, &following_values(m, (a, b), (0, d))),
+            Some(false)
+        );
+        assert_eq!(rt; both(&plan, &[0, 0, a, b, c, d, 0, 0]), Some(true));
+        assert_eq!(rt; both(&plan, &[a, b, 0, 0, c, d, 0, 0]), Some(true));
+        assert_eq!(rt; both(&plan, &[a, b, a, b, c, d, 0, 0]), Some(false));
+    }
     Ok(())
 }

@@ -5,7 +5,7 @@ use Rattle.sparse_solver.proofs.Turns.{read_at}
 use Rattle.sparse_solver.proofs.replay.add_steps.Goals as goal
 
 pub loop-place-preserved : goal.loop-place-preserved
-loop-place-preserved c =
+loop-place-preserved g c =
     let steps = c.args.steps.now in
     let placed = c.requires.shaped.placed c.args.turn c.requires.turn in
     let first = read_at steps.firsts.items c.args.turn c.index-place.result.now (omega (arith, c.requires.shaped.roomy.firsts_room, c.requires.turn)) c.index-place.ensures in
@@ -16,6 +16,7 @@ loop-place-preserved c =
     let low : c.index-earlier.result.now < c.args.turn = omega (arith, earlier, placed.before c.loop-place.place from to) in
     record {
       room = omega arith;
+      residues = c.add_step.ensures.row_residues;
       same = λ w vanish. c.add_step.ensures.same w (vanish c.index-earlier.result.now low) ∙ c.loop-place.invariant.same w vanish;
       others = λ k outside.
           c.add_step.ensures.others k

@@ -1,8 +1,6 @@
-use Rattle.std.proofs.Common.{◌*◌, ◌%◌, refl, sym, ◌∙◌, ap, get_or, arith}
-use Rattle.std.proofs.Math.Nat.{mod-mod}
+use Rattle.std.proofs.Common.{◌*◌, ◌%◌, sym, ◌∙◌, ap, get_or, arith}
 use Rattle.prime_field.specs.Inverses.{AreInverses}
 use Rattle.prime_field.specs.Modulus.{value_of}
-use Rattle.prime_field.proofs.Residues.{mul-cong}
 use Rattle.elim_core.proofs.Choices.{on_true, true_of}
 use Rattle.sparse_solver.proofs.replay.invert_leads.Goals as goal
 
@@ -10,8 +8,6 @@ pub returns-clause-units : goal.returns-clause-units
 returns-clause-units c = on_true c.inv_all.result _ (λ yes t low.
     let m = value_of c.args.m in
     let is = true_of c.inv_all.result (AreInverses m c.copy_leads.new.leads c.inv_all.new.xs) c.inv_all.ensures.inverted yes in
-    let first = get_or c.args.kept.now (get_or c.args.steps.now.leads.items t 0) 0 in
     let inverse = get_or c.inv_all.new.xs t 0 in
-    mul-cong m first (first % m) inverse inverse (sym (mod-mod first m)) refl ∙
     ap (λ x. (x * inverse) % m) (sym (c.copy_leads.ensures.copied t low)) ∙
     is.products t (omega (arith, low, c.copy_leads.ensures.room, c.requires.room)))
