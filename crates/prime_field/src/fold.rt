@@ -1,7 +1,8 @@
 //! Remainders of 128-bit numbers by the two moduli, with no division.
 //!
 //! Since 2^61 leaves 1 modulo 2^61 - 1, the bits from 61 on may be added to the bits below them. Since 2^63 leaves 25
-//! modulo 2^63 - 25, the bits from 63 on may be added 25 times to those below.
+//! modulo 2^63 - 25, the bits from 63 on may be added 25 times to those below, and those from 64 on 50 times, which is where
+//! a processor parts a product.
 
 ghost use Rattle.std.specs.Prelude.{◌≡◌, ◌*◌, ◌%◌, ◌^◌, ◌<◌};
 
@@ -43,7 +44,7 @@ pub fn few_by_first(n: u128) -> u64
 pub fn by_second(n: u128) -> u64
     ensures { result ≡ n % 9223372036854775783 }
 {
-    let wide = 25 * (n >> 63) + (n & 0x7fff_ffff_ffff_ffff);
+    let wide = 50 * (n >> 64) + (n & 0xffff_ffff_ffff_ffff);
     let high = (wide >> 63) as u64;
     let low = (wide & 0x7fff_ffff_ffff_ffff) as u64;
     let sum = 25 * high + low;
