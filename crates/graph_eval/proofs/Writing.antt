@@ -1,8 +1,8 @@
 -- Lists that are written part after part.
-use Rattle.std.proofs.Common.{◌≡◌, ℕ, ◌+◌, ◌-◌, ◌<◌, ◌≤◌, List, [], ◌∷◌, ◌++◌, All, length, map, take, drop, set, get_or, Option, Some, refl, sym, ◌∙◌, ap, add-one, arith}
+use Rattle.std.proofs.Common.{◌≡◌, ℕ, ◌+◌, ◌-◌, ◌<◌, ◌≤◌, List, [], ◌∷◌, ◌++◌, All, length, map, take, drop, set, get_or, refl, sym, ◌∙◌, ap, add-one, arith}
 use Rattle.std.specs.List.{flat_map}
-use Rattle.std.proofs.lemmas.List.{take_more, take_more_set, get_or-take, get_or-drop, map-append, length-map, length-take}
-use Rattle.std.proofs.lemmas.List.Elements.{All-nil, All-cons, All-drop, All-push, All-same, All-take}
+use Rattle.std.proofs.lemmas.List.{take_more, get_or-take, get_or-drop, map-append, length-map, length-take}
+use Rattle.std.proofs.lemmas.List.Elements.{All-nil, All-cons, All-drop, All-take}
 use Rattle.std.proofs.lemmas.List.Folds.{length-flat_map-take}
 use Rattle.std.proofs.lemmas.Slice.{take-put_mid}
 use borrow.Rule.Slice.PartMut.{put_mid}
@@ -10,22 +10,11 @@ use Rattle.basic_nodes.specs.Plain.{taken, chained, summed, multiplied}
 use Rattle.basic_nodes.proofs.Pieces.{taken-more, chained-more}
 use Rattle.basic_nodes.proofs.Plain.{summed-one, summed-more, multiplied-one, multiplied-more}
 use Rattle.graph_file.specs.declared.graph.Source.{Source}
-use Rattle.graph_file.specs.Line.{all_of}
 use Rattle.graph_eval.specs.Reading.{placed, start_of, stop_of}
-use Rattle.graph_eval.proofs.Gathered.{onto, asked_there}
 
 -- the lists of one part more
 pub lists_more : {X Y : Type 0} (f : X → Y) (parts : List X) (i : ℕ) (d : X) → i < length parts → map f (take (i + 1) parts) ≡ map f (take i parts) ++ f (get_or parts i d) ∷ []
 lists_more f parts i d below = ap (map f) (take_more parts i d below) ∙ map-append f (take i parts) (get_or parts i d ∷ [])
-
--- one value more
-pub values_more : {X : Type 0} (ask : X → Option ℕ) (xs : List X) (out : List ℕ) (whole : Option (List ℕ)) (i v : ℕ) (d : X) → i < length xs → i < length out
-    → whole ≡ onto (take i out) (all_of (map ask (drop i xs))) → ask (get_or xs i d) ≡ Some v → whole ≡ onto (take (i + 1) (set out i v)) (all_of (map ask (drop (i + 1) xs)))
-values_more ask xs out whole i v d below room so_far is =
-    asked_there ask xs i d below whole (take i out) v so_far is ∙ ap (λ front. onto front (all_of (map ask (drop (i + 1) xs)))) (sym (take_more_set out i v room))
-
-pub residues_more : (m : ℕ) (out : List ℕ) (i v : ℕ) → i < length out → All (λ x. x < m) (take i out) → v < m → All (λ x. x < m) (take (i + 1) (set out i v))
-residues_more m out i v room so_far is = All-same (λ x. x < m) _ _ (take_more_set out i v room) (All-push (λ x. x < m) (take i out) v so_far is)
 
 -- a list of one place, once it is written
 pub one_place : (xs : List ℕ) (v : ℕ) → length xs ≡ 1 → set xs 0 v ≡ v ∷ []

@@ -11,7 +11,7 @@ use crate::outcome::Cause;
 use basic_nodes::{chain_into, product_into, sum_into, take};
 use graph_file::Source;
 use prime_field::Modulus;
-use ratfun_text::Expr;
+use ratfun_text::{Expr, values_into};
 
 /// The list that a source names, the graph's inputs or the list of a node, among words whose lists end at these places.
 pub(crate) fn placed<'a>(words: &'a [u64], places: &[usize], source: Source) -> &'a [u64]
@@ -45,13 +45,11 @@ pub(crate) fn write_values(
     ensures err { IfErr result (λ cause. (all_of (map (value (value_of m) arguments.now) exprs.now) ≡ None) × (cause ≡ Cause.Division)) }
     ensures residues { OnOk result (All (λ x. x < value_of m) out.new) }
 {
-    for (place, expr) in exprs.iter().enumerate() {
-        let Some(value) = expr.value(m, arguments) else {
-            return Err(Cause::Division);
-        };
-        out[place] = value;
+    if values_into(exprs, m, arguments, out) {
+        Ok(())
+    } else {
+        Err(Cause::Division)
     }
-    Ok(())
 }
 
 /// Writes the entries that parts name, a place for each.
