@@ -1,5 +1,5 @@
 //! The values of expressions at residues.
-ghost use Rattle.std.specs.Prelude.{◌≡◌, ◌<◌, ◌≤◌, ◌-◌, ◌*◌, ◌^◌, ◌%◌, All, IfSome, None, Some, drop, length, map};
+ghost use Rattle.std.specs.Prelude.{◌≡◌, ◌<◌, ◌≤◌, ◌-◌, ◌*◌, ◌^◌, ◌%◌, All, IfSome, None, Some, drop, length, map, if◌then◌else◌};
 ghost use Rattle.std.specs.Bool.{OnTrue, OnFalse};
 ghost use Rattle.std.specs.List.{Contains};
 ghost use Rattle.std.specs.Option.{option_map};
@@ -43,7 +43,7 @@ fn write_by<F: Inverses>(field: F, exprs: &[Expr], args: &[u64], out: &mut [u64]
     if are_short(exprs) {
         write_values(field, exprs, args, &mut [], out)
     } else {
-        let mut kept = no_powers(field, args);
+        let mut kept = no_powers();
         write_values(field, exprs, args, &mut kept, out)
     }
 }
@@ -166,7 +166,7 @@ fn power_of<F: Inverses>(
     Some(pow(field, value, exponent))
 }
 
-/// The sum of the parts, of which those with `true` are taken off.
+/// The sum of the parts, of which those with `true` are taken off; it begins with the first of them.
 #[cycle(value)]
 fn sum<F: Inverses>(
     field: F,
@@ -180,8 +180,36 @@ fn sum<F: Inverses>(
     ensures residue { IfSome result (λ v. v < F.modulus) }
     ensures kept { All (IsPower F.modulus args.now) kept.new }
 {
-    let mut sum = 0;
-    for (minus, part) in parts {
+    if parts.is_empty() {
+        return Some(0);
+    }
+    let (minus, first) = &parts[0];
+    let value = value(field, first, args, kept)?;
+    let start = with_sign(field, *minus, value);
+    sum_from(field, start, parts, 1, args, kept)
+}
+
+/// The sum of a start and the parts from a place on.
+#[cycle(value)]
+fn sum_from<F: Inverses>(
+    field: F,
+    start: u64,
+    parts: &[(bool, Expr)],
+    from: usize,
+    args: &[u64],
+    kept: &mut [KnownPower],
+) -> Option<u64>
+    requires start { start < F.modulus }
+    requires place { from ≤ length parts.now }
+    requires residues { All (λ a. a < F.modulus) args.now }
+    requires kept { All (IsPower F.modulus args.now) kept.old }
+    ensures value { result ≡ sum_from F.modulus start (valued F.modulus args.now (drop from parts.now)) }
+    ensures residue { IfSome result (λ v. v < F.modulus) }
+    ensures kept { All (IsPower F.modulus args.now) kept.new }
+{
+    let mut sum = start;
+    for index in from..parts.len() {
+        let (minus, part) = &parts[index];
         let value = value(field, part, args, kept)?;
         sum = added(field, sum, *minus, value);
     }
@@ -273,6 +301,16 @@ fn quotient_from<F: Inverses>(
         }
     }
     divided(field, above, below)
+}
+
+/// A residue, or with `minus` its negative.
+#[inline]
+fn with_sign<F: Inverses>(field: F, minus: bool, value: u64) -> u64
+    requires { value < F.modulus }
+    ensures signed { result ≡ (if minus then F.modulus - value else value) % F.modulus }
+    ensures residue { result < F.modulus }
+{
+    if minus { neg(field, value) } else { value }
 }
 
 /// The quotient of two residues.

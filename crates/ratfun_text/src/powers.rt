@@ -1,5 +1,5 @@
 //! Powers of arguments, each of which is kept once it is known.
-ghost use Rattle.std.specs.Prelude.{◌≡◌, ◌%◌, ◌^◌, ◌<◌, All, IfSome};
+ghost use Rattle.std.specs.Prelude.{◌≡◌, ℕ, ◌%◌, ◌^◌, ◌<◌, All, IfSome, List, Some};
 ghost use Rattle.std.specs.Option.{option_map};
 ghost use Rattle.ratfun_text.specs.Powers.{IsPower};
 ghost use Rattle.ratfun_text.specs.Value.{argument};
@@ -33,8 +33,8 @@ pub fn argument(args: &[u64], place: u32) -> Option<u64>
 
 /// Room for powers, of which none is known.
 #[inline]
-pub fn no_powers<F: Field>(_field: F, args: &[u64]) -> [KnownPower; KEPT]
-    ensures { All (IsPower F.modulus args.now) result }
+pub fn no_powers() -> [KnownPower; KEPT]
+    ensures { (m : ℕ) (args : List ℕ) → All (IsPower m args) result }
 {
     [KnownPower {
         place: 0,
@@ -60,18 +60,38 @@ pub fn power<F: Field>(
 {
     let base = argument(args, place)?;
     let at = (place as usize * EXPONENTS + exponent as usize) % KEPT;
-    if at >= kept.len() {
-        return Some(pow(field, base, exponent));
+    if at < kept.len() {
+        let found = kept[at];
+        if found.place == place && found.exponent == exponent {
+            return Some(found.value);
+        }
     }
-    let found = kept[at];
-    if found.place == place && found.exponent == exponent {
-        return Some(found.value);
-    }
+    Some(computed(field, base, place, exponent, at, kept))
+}
+
+/// A power that is not kept: it is computed, and kept at `at` where there is room. It stands apart, so that the way of one
+/// that is kept already stays short.
+#[inline(never)]
+fn computed<F: Field>(
+    field: F,
+    base: u64,
+    place: u32,
+    exponent: u32,
+    at: usize,
+    kept: &mut [KnownPower],
+) -> u64
+    requires { base < F.modulus }
+    ensures power { result ≡ (base ^ exponent) % F.modulus }
+    ensures residue { result < F.modulus }
+    ensures kept { (args : List ℕ) → argument args place ≡ Some base → All (IsPower F.modulus args) kept.old → All (IsPower F.modulus args) kept.new }
+{
     let value = pow(field, base, exponent);
-    kept[at] = KnownPower {
-        place,
-        exponent,
-        value,
-    };
-    Some(value)
+    if at < kept.len() {
+        kept[at] = KnownPower {
+            place,
+            exponent,
+            value,
+        };
+    }
+    value
 }

@@ -142,6 +142,36 @@ fn values_at_three_and_five(rt: HostRuntime) -> Result<(), Fail> {
     Ok(())
 }
 
+/// The sum of a first part, which is taken off with `minus`, and the argument `y`.
+fn sum_with_y(alloc: Global, minus: bool, first: Expr) -> Result<Expr, AllocError> {
+    let mut parts = Items::new(alloc);
+    parts.push((minus, first))?;
+    parts.push((false, Expr::Arg(2)))?;
+    Ok(Expr::Sum(parts))
+}
+
+#[test]
+fn sums_begin_with_any_first_part(rt: HostRuntime) -> Result<(), Fail> {
+    let mut exprs = Items::new(rt.alloc());
+    exprs.push(sum_with_y(rt.alloc(), true, Expr::Arg(1))?)?;
+    exprs.push(sum_with_y(rt.alloc(), false, Expr::Number(u128::MAX))?)?;
+    exprs.push(sum_with_y(rt.alloc(), true, Expr::Number(u128::MAX))?)?;
+    exprs.push(sum_with_y(rt.alloc(), true, Expr::Number(0))?)?;
+    exprs.push(Expr::Sum(Items::new(rt.alloc())))?;
+    for (m, want) in [
+        (Modulus::First, [2, 68, 2305843009213693893, 5, 0]),
+        (Modulus::Second, [2, 2504, 9223372036854773289, 5, 0]),
+    ] {
+        let mut out = [0; 5];
+        assert!(rt; values(&rt, exprs.as_slice(), m, &[3, 5], &mut out));
+        assert_eq!(rt; out, want);
+        for (place, expr) in exprs.as_slice().iter().enumerate() {
+            assert_eq!(rt; value(&rt, expr, m, &[3, 5]), out.get(place).copied());
+        }
+    }
+    Ok(())
+}
+
 #[test]
 fn a_divisor_without_an_inverse_leaves_no_value(rt: HostRuntime) -> Result<(), Fail> {
     for text in [

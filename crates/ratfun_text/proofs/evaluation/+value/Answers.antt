@@ -1,5 +1,6 @@
 use Rattle.std.proofs.Common.{◌≡◌, ◌+◌, ◌*◌, ◌%◌, ◌<◌, ◌∷◌, Some, drop, length, rules, sym, ap, ◌∙◌, arith}
-use Rattle.ratfun_text.specs.Value.{product_from, valued}
+use Rattle.ratfun_text.specs.Value.{sum_from, product_from, valued}
+use Rattle.ratfun_text.proofs.Trees.{sum_started}
 use Rattle.ratfun_text.proofs.Quotients.{product_started, going_on, going_on-start, going_on-next, going_on-factor, going_on-divisor}
 use Rattle.ratfun_text.proofs.evaluation.+value.Goals.{quotient_from-then-over, quotient_from-else-over}
 use Rattle.ratfun_text.proofs.evaluation.+value.Goals as goal
@@ -46,3 +47,11 @@ product-returns-clause-value g t c =
     let some : 0 < length c.args.parts.now = search rules in
     c.product_from.ensures.value ∙ product_started g.F.Field.modulus c.args.args.now c.args.parts.now c.index-parts-0.result c.in_ok-start.start some c.index-parts-0.is c.if-over.false
     (sym c.value.ensures.value ∙ c.in_ok-start.was) c.in_ok-start.ensures.residue
+
+pub sum-returns-clause-value : goal.sum-returns-clause-value
+sum-returns-clause-value g t c =
+    let m = g.F.Field.modulus in
+    let parts = c.args.parts.now in
+    let some : 0 < length parts = search rules in
+    c.sum_from.ensures.value ∙ ap (λ n. sum_from m n (valued m c.args.args.now (drop 1 parts))) c.with_sign-start.ensures.signed
+    ∙ sum_started m c.args.args.now parts c.index-parts-0.result c.in_ok-value.value some c.index-parts-0.is (sym c.value.ensures.value ∙ c.in_ok-value.was)

@@ -20,9 +20,9 @@ invariant-quotient_from-loop-index g l = let m = g.F.Field.modulus in record {
   kept : All (IsPower m l.args) l.kept;
 }
 
-abbrev pub invariant-sum-loop-minus : goal.invariant-sum-loop-minus
-invariant-sum-loop-minus g l = let m = g.F.Field.modulus in record {
-  same : sum_from m l.sum (valued m l.args (drop l.minus-index l.parts)) ≡ sum_from m 0 (valued m l.args l.parts);
+abbrev pub invariant-sum_from-loop-index : goal.invariant-sum_from-loop-index
+invariant-sum_from-loop-index g l = let m = g.F.Field.modulus in record {
+  same : sum_from m l.sum (valued m l.args (drop l.index l.parts)) ≡ sum_from m l.start (valued m l.args (drop l.from l.parts));
   low : l.sum < m;
   kept : All (IsPower m l.args) l.kept;
 }
