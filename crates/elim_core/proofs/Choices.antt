@@ -227,7 +227,7 @@ on_false false P f = f refl
 -- slots that were used are as they were
 pub kept-same : (u : ℕ) (old_rows ends rows now_ends back : List ℕ) → KeepsUsed u old_rows ends rows now_ends → ((j : ℕ) → j < u → get_or back j 0 ≢ 0 → get_or ends j 0 ≢ 0) → (j k : ℕ) → j < u → k < u + 1 → entry u rows back j k ≡ entry u old_rows back j k
 kept-same u old_rows ends rows now_ends back keeps used j k low k_low =
-    entry-same u rows back old_rows back j k refl (λ some. keeps.same_row j k low k_low (used j low some))
+    entry-same u rows back old_rows back j k low k_low refl (λ some i i_low. keeps.same_row j i low i_low (used j low some))
 
 -- rows with the same entries are laid out
 pub laid_out_same : (m u : ℕ) (old_rows rows ends : List ℕ) → IsLaidOut m u old_rows ends → length rows ≡ u * (u + 1) → ((j k : ℕ) → j < u → k < u + 1 → entry u rows ends j k ≡ entry u old_rows ends j k) → IsLaidOut m u rows ends

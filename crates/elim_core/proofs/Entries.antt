@@ -21,17 +21,18 @@ module _ (u : ℕ) (rows ends : List ℕ) (j : ℕ) where
   unfolding entry
   entry-own some = rw (ne_eqb (get_or ends j 0) 0 some, le-ltb j j (omega arith), eq-eqb j j refl) refl
 
-  pub entry-within : (k : ℕ) → get_or ends j 0 ≢ 0 → j < k → k < get_or ends j 0 → entry u rows ends j k ≡ get_or rows (j * (u + 1) + k) 0
+  pub entry-within : (k : ℕ) → get_or ends j 0 ≢ 0 → j < k → k < get_or ends j 0 → k < u → entry u rows ends j k ≡ get_or rows (j * (u + 1) + k) 0
   unfolding entry
-  entry-within k some after low =
+  entry-within k some after low before_right =
       let other : k ≢ j = omega arith in
-      rw (ne_eqb (get_or ends j 0) 0 some, le-ltb k j (omega arith), ne_eqb k j other, lt-ltb k (get_or ends j 0) low) refl
+      let no_right : k ≢ u = omega arith in
+      rw (ne_eqb (get_or ends j 0) 0 some, le-ltb k j (omega arith), ne_eqb k j other, ne_eqb k u no_right, lt-ltb k (get_or ends j 0) low) refl
 
-  pub entry-right : get_or ends j 0 ≢ 0 → j < u → get_or ends j 0 < u + 1 → entry u rows ends j u ≡ get_or rows (j * (u + 1) + u) 0
+  pub entry-right : get_or ends j 0 ≢ 0 → j < u → entry u rows ends j u ≡ get_or rows (j * (u + 1) + j) 0
   unfolding entry
-  entry-right some low ends_low =
+  entry-right some low =
       let other : u ≢ j = omega arith in
-      rw (ne_eqb (get_or ends j 0) 0 some, le-ltb u j (omega arith), ne_eqb u j other, le-ltb u (get_or ends j 0) (omega arith), eq-eqb u u refl) refl
+      rw (ne_eqb (get_or ends j 0) 0 some, le-ltb u j (omega arith), ne_eqb u j other, eq-eqb u u refl) refl
 
   pub entry-beyond : (k : ℕ) → j < k → get_or ends j 0 < k + 1 → k < u → entry u rows ends j k ≡ 0
   unfolding entry
@@ -41,16 +42,18 @@ module _ (u : ℕ) (rows ends : List ℕ) (j : ℕ) where
         | inr some ↦
             let other : k ≢ j = omega arith in
             let no_right : k ≢ u = omega arith in
-            rw (ne_eqb (get_or ends j 0) 0 some, le-ltb k j (omega arith), ne_eqb k j other, le-ltb k (get_or ends j 0) (omega arith), ne_eqb k u no_right) refl
+            rw (ne_eqb (get_or ends j 0) 0 some, le-ltb k j (omega arith), ne_eqb k j other, ne_eqb k u no_right, le-ltb k (get_or ends j 0) (omega arith)) refl
       ]
 
 -- a slot with the same words and the same end has the same entries
-pub entry-same : (u : ℕ) (rows ends rows' ends' : List ℕ) (j k : ℕ) → get_or ends j 0 ≡ get_or ends' j 0 → (get_or ends' j 0 ≢ 0 → get_or rows (j * (u + 1) + k) 0 ≡ get_or rows' (j * (u + 1) + k) 0) → entry u rows ends j k ≡ entry u rows' ends' j k
+pub entry-same : (u : ℕ) (rows ends rows' ends' : List ℕ) (j k : ℕ) → j < u → k < u + 1 → get_or ends j 0 ≡ get_or ends' j 0 →
+    (get_or ends' j 0 ≢ 0 → (i : ℕ) → i < u + 1 → get_or rows (j * (u + 1) + i) 0 ≡ get_or rows' (j * (u + 1) + i) 0) →
+    entry u rows ends j k ≡ entry u rows' ends' j k
 unfolding entry
-entry-same u rows ends rows' ends' j k same_end same_row =
+entry-same u rows ends rows' ends' j k low k_low same_end same_row =
     elim (cases_eq (get_or ends' j 0) 0) [
       | inl none ↦ entry-empty u rows ends j k (same_end ∙ none) ∙ sym (entry-empty u rows' ends' j k none)
-      | inr some ↦ rw (same_end, same_row some) refl
+      | inr some ↦ rw (same_end, same_row some k k_low, same_row some j (omega arith)) refl
     ]
 
 -- rows that are laid out are in echelon form

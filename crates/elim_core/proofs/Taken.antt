@@ -13,9 +13,15 @@ use Rattle.elim_core.proofs.Systems.{Meets-row, Meets-added}
 use Rattle.elim_core.proofs.Entries.{entry-before, entry-right, entry-beyond}
 use Rattle.elim_core.proofs.Added.{nothing_added, added-earlier, added-both, added-same, added-span}
 
-pub right_low : (m u : ℕ) (rows ends : List ℕ) (j : ℕ) → IsLaidOut m u rows ends → j < u → get_or ends j 0 ≢ 0 → get_or rows (j * (u + 1) + u) 0 < m
+pub right_low : (m u : ℕ) (rows ends : List ℕ) (j : ℕ) → IsLaidOut m u rows ends → j < u → get_or ends j 0 ≢ 0 → get_or rows (j * (u + 1) + j) 0 < m
 right_low m u rows ends j laid low some =
-    subst (λ (x : ℕ). x < m) (entry-right u rows ends j some low (laid.within j low)) (laid.residues j u low (omega arith))
+    subst (λ (x : ℕ). x < m) (entry-right u rows ends j some low) (laid.residues j u low (omega arith))
+
+-- the right side of the row in slot j is the word at place j of the slot
+pub right-stored : (s : Slots) (j : ℕ) → get_or s.ends.now j 0 ≢ 0 → j < s.unknowns → entry_in s j s.unknowns ≡ get_or s.rows.now (j * (s.unknowns + 2)) 0
+right-stored s j some low =
+    let same : j * (s.unknowns + 1) + j ≡ j * (s.unknowns + 2) = omega arith in
+    entry-right s.unknowns s.rows.now s.ends.now j some low ∙ ap (λ i. get_or s.rows.now i 0) same
 
 -- the words of an earlier slot stand before those of a later one
 pub slot_before : (j p u k : ℕ) → j < p → k < u + 1 → j * (u + 1) + k < p * (u + 1)

@@ -19,38 +19,38 @@ pub record IsWritten (m u : ℕ) (rows ends row : List ℕ) (p end inverse : ℕ
   pub other_ends : (j : ℕ) → j ≢ p → get_or ends' j 0 ≡ get_or ends j 0
   pub its_end : get_or ends' p 0 ≡ end
   pub its_span : (k : ℕ) → p < k → k < end → get_or rows' (p * (u + 1) + k) 0 ≡ (inverse * get_or row k 0) % m
-  pub its_right : get_or rows' (p * (u + 1) + u) 0 ≡ (inverse * get_or row u 0) % m
+  pub its_right : get_or rows' (p * (u + 1) + p) 0 ≡ (inverse * get_or row u 0) % m
 
 pub written : (m u : ℕ) (rows ends row now : List ℕ) (p end inverse v : ℕ) → length rows ≡ u * (u + 1) → length ends ≡ u → p < end → end < u + 1 → length now ≡ length rows →
     ((k : ℕ) → p + 1 < k + 1 → k < end → get_or now (p * (u + 1) + k) 0 ≡ (inverse * get_or row k 0) % m) →
     ((i : ℕ) → i < p * (u + 1) + (p + 1) → get_or now i 0 ≡ get_or rows i 0) →
     ((i : ℕ) → p * (u + 1) + end ≤ i → get_or now i 0 ≡ get_or rows i 0) →
     v ≡ (inverse * get_or row u 0) % m →
-    IsWritten m u rows ends row p end inverse (set now (p * (u + 1) + u) v) (set ends p end)
+    IsWritten m u rows ends row p end inverse (set now (p * (u + 1) + p) v) (set ends p end)
 written m u rows ends row now p end inverse v rows_room ends_room within end_low room inside before after v_is =
     let p_low : p < u = omega arith in
     let p_there : p < length ends = omega arith in
-    let right_there : p * (u + 1) + u < length now = omega (arith, room, rows_room, slot_before p u u u p_low (omega arith)) in
+    let right_there : p * (u + 1) + p < length now = omega (arith, room, rows_room, slot_before p u u p p_low (omega arith)) in
     record {
-      rows_room = length-set now (p * (u + 1) + u) v ∙ room;
+      rows_room = length-set now (p * (u + 1) + p) v ∙ room;
       ends_room = length-set ends p end;
       other_slots = λ j k j_low k_low ne.
           elim (cases_lt j p) [
             | inl first ↦
                 let early = slot_before j p u k first k_low in
-                let elsewhere : j * (u + 1) + k ≢ p * (u + 1) + u = omega arith in
-                get_or-set_other now (p * (u + 1) + u) (j * (u + 1) + k) v 0 elsewhere ∙ before (j * (u + 1) + k) (omega arith)
+                let elsewhere : j * (u + 1) + k ≢ p * (u + 1) + p = omega arith in
+                get_or-set_other now (p * (u + 1) + p) (j * (u + 1) + k) v 0 elsewhere ∙ before (j * (u + 1) + k) (omega arith)
             | inr not_first ↦
                 let late = slot_before p j u u (omega arith) (omega arith) in
-                let elsewhere : j * (u + 1) + k ≢ p * (u + 1) + u = omega arith in
-                get_or-set_other now (p * (u + 1) + u) (j * (u + 1) + k) v 0 elsewhere ∙ after (j * (u + 1) + k) (omega arith)
+                let elsewhere : j * (u + 1) + k ≢ p * (u + 1) + p = omega arith in
+                get_or-set_other now (p * (u + 1) + p) (j * (u + 1) + k) v 0 elsewhere ∙ after (j * (u + 1) + k) (omega arith)
           ];
       other_ends = λ j ne. get_or-set_other ends p j end 0 ne;
       its_end = get_or-set_same ends p end 0 p_there;
       its_span = λ k above low.
-          let elsewhere : p * (u + 1) + k ≢ p * (u + 1) + u = omega arith in
-          get_or-set_other now (p * (u + 1) + u) (p * (u + 1) + k) v 0 elsewhere ∙ inside k (omega arith) low;
-      its_right = get_or-set_same now (p * (u + 1) + u) v 0 right_there ∙ v_is;
+          let elsewhere : p * (u + 1) + k ≢ p * (u + 1) + p = omega arith in
+          get_or-set_other now (p * (u + 1) + p) (p * (u + 1) + k) v 0 elsewhere ∙ inside k (omega arith) low;
+      its_right = get_or-set_same now (p * (u + 1) + p) v 0 right_there ∙ v_is;
     }
 
 module _ (m u : ℕ) (rows ends row : List ℕ) (lead : Lead) (inverse : ℕ) (rows' ends' : List ℕ) (large : 1 < m) (laid : IsLaidOut m u rows ends) (low : IsRow m u row) (leads : IsLead u ends row lead)
@@ -64,7 +64,7 @@ module _ (m u : ℕ) (rows ends row : List ℕ) (lead : Lead) (inverse : ℕ) (r
   -- no other slot changes
   pub written-others : (j k : ℕ) → j < u → k < u + 1 → j ≢ lead.place → entry u rows' ends' j k ≡ entry u rows ends j k
   written-others j k j_low k_low ne =
-      entry-same u rows' ends' rows ends j k (w.other_ends j ne) (λ some. w.other_slots j k j_low k_low ne)
+      entry-same u rows' ends' rows ends j k j_low k_low (w.other_ends j ne) (λ some i i_low. w.other_slots j i j_low i_low ne)
 
   zero_product : (k : ℕ) → get_or row k 0 ≡ 0 → 0 ≡ (inverse * get_or row k 0) % m
   zero_product k none = sym (zero-mod m) ∙ ap (λ x. x % m) (omega arith) ∙ ap (λ x. (inverse * x) % m) (sym none)
@@ -83,12 +83,12 @@ module _ (m u : ℕ) (rows ends row : List ℕ) (lead : Lead) (inverse : ℕ) (r
                   elim (cases_eq k u) [
                     | inl last ↦
                         ap (entry u rows' ends' lead.place) last ∙
-                        entry-right u rows' ends' lead.place now_used p_low (omega (arith, w.its_end, leads.end_within)) ∙
+                        entry-right u rows' ends' lead.place now_used p_low ∙
                         w.its_right ∙ ap (λ i. (inverse * get_or row i 0) % m) (sym last)
                     | inr not_last ↦
                         elim (cases_lt k lead.end) [
                           | inl within ↦
-                              entry-within u rows' ends' lead.place k now_used (omega arith) (omega (arith, w.its_end)) ∙
+                              entry-within u rows' ends' lead.place k now_used (omega arith) (omega (arith, w.its_end)) (omega arith) ∙
                               w.its_span k (omega arith) within
                           | inr past ↦
                               entry-beyond u rows' ends' lead.place k (omega arith) (omega (arith, w.its_end)) (omega arith) ∙

@@ -63,7 +63,7 @@ module _ (m u : ℕ) (rows ends values : List ℕ) (place : ℕ) (laid : IsLaidO
   word-after n t n_is t_low =
       let same : place * (u + 1) + place + 1 + t ≡ place * (u + 1) + (place + 1 + t) = omega arith in
       get_or-take n (drop (place * (u + 1) + place + 1) rows) t 0 t_low ∙ get_or-drop (place * (u + 1) + place + 1) rows t 0 ∙
-      ap (λ i. get_or rows i 0) same ∙ sym (entry-within u rows ends place (place + 1 + t) used (omega arith) (omega (arith, after)))
+      ap (λ i. get_or rows i 0) same ∙ sym (entry-within u rows ends place (place + 1 + t) used (omega arith) (omega (arith, after)) (omega (arith, after, end_low)))
 
   value-after : (n t : ℕ) → t < n → get_or (values_after values place n) t 0 ≡ put place 0 (λ i. get_or values i 0) (place + 1 + t)
   value-after n t t_low =

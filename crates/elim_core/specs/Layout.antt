@@ -1,5 +1,5 @@
 -- How the words lent to an elimination keep rows.
-use Rattle.std.specs.Prelude.{◌≡◌, ◌≢◌, ℕ, ◌+◌, ◌-◌, ◌*◌, ◌<◌, ◌↔◌, ◌==◌, ◌||◌, nat_lt, if◌then◌else◌, List, length, slice_index}
+use Rattle.std.specs.Prelude.{◌≡◌, ◌≢◌, ℕ, ◌+◌, ◌-◌, ◌*◌, ◌<◌, ◌↔◌, ◌==◌, nat_lt, if◌then◌else◌, List, length, slice_index}
 use Rattle.prime_field.specs.Residue.{IsPrime}
 use Rattle.elim_core.specs.Rows.{Meets, AllMet, AreResidues, IsCut}
 use Rattle.elim_core.specs.declared.Rank.{Rank}
@@ -7,13 +7,15 @@ use Rattle.elim_core.specs.declared.Rank.TheVariants.{New, Same, Contradiction}
 use Rattle.elim_core.specs.declared.elimination.Lead.{Lead}
 
 -- entry k of the row in slot j, its right side at k = u. A slot whose end is 0 is empty, which stands for a row of zeros.
--- Another's row begins at place j with 1, and has zeros from its end on; what lies outside is not read
+-- Another's row begins at place j with 1, and has zeros from its end on. Its right side is kept where the 1 would stand; the
+-- words before that place and from the end on are not read
 unfoldable pub entry : ℕ → List ℕ → List ℕ → ℕ → ℕ → ℕ
 entry u rows ends j k =
     if slice_index ends j == 0 then 0 else
     (if nat_lt k j then 0 else
     (if k == j then 1 else
-    (if nat_lt k (slice_index ends j) || k == u then slice_index rows (j * (u + 1) + k) else 0)))
+    (if k == u then slice_index rows (j * (u + 1) + j) else
+    (if nat_lt k (slice_index ends j) then slice_index rows (j * (u + 1) + k) else 0))))
 
 -- u slots of u + 1 words, with an end each, whose entries are residues
 pub record IsLaidOut (m u : ℕ) (rows ends : List ℕ) : Type 0 where

@@ -14,7 +14,7 @@ pub record AreSlots (m : ℕ) (s : Slots) : Type 0 where
 abbrev pub entry_in : Slots → ℕ → ℕ → ℕ
 entry_in s = entry s.unknowns s.rows.now s.ends.now
 
--- entry k of the row in slot j is a word of the slot
+-- entry k of the row in slot j is the word at place k of the slot
 abbrev pub IsStored : Slots → ℕ → ℕ → Type 0
 IsStored s j k = entry_in s j k ≡ slice_index s.rows.now (j * (s.unknowns + 1) + k)
 

@@ -1,4 +1,5 @@
-//! Rows in slots: each row begins at the place of its slot with 1, and is kept from there to its end.
+//! Rows in slots: each row begins at the place of its slot with 1, and is kept from there to its end, with its right side in
+//! place of the 1.
 
 ghost use Rattle.std.specs.Prelude.{◌≡◌, ◌≢◌, ℕ, ◌+◌, ◌-◌, ◌*◌, ◌%◌, ◌<◌, ◌≤◌, ◌↔◌, length, slice_index, IfSome, IfNone, IsTrue};
 ghost use Rattle.std.specs.Bool.{OnTrue, OnFalse};
@@ -143,7 +144,7 @@ fn keep_row(
         Some(inverse) => {
             let start = lead.place * (unknowns + 1);
             write_span(modulus, rows, start, row, lead.place + 1, lead.end, inverse);
-            rows[start + unknowns] = modulus.mul(inverse, row[unknowns]);
+            rows[start + lead.place] = modulus.mul(inverse, row[unknowns]);
             ends[lead.place] = lead.end as u64;
             true
         }

@@ -5,7 +5,7 @@ ghost use Rattle.elim_core.specs.Layout.{IsRow};
 ghost use Rattle.elim_core.specs.Multiples.{AreSlots, entry_in, multiples, IsAdded, IsGroup};
 
 use crate::slots::Slots;
-use crate::span::{add_row, add_rows, earlier, later, with_multiples};
+use crate::span::{add_row, add_rows, earlier, later};
 use prime_field::Field;
 
 /// The rows that are taken at once.
@@ -102,6 +102,33 @@ pub fn begin_group<F: Field>(
     group
 }
 
+/// A right side with those of the rows in the slots from `slot` on, each times its factor: one fold for all. That in slot
+/// j is at place j of the slot, which is word j * (unknowns + 2).
+#[inline(always)]
+fn with_right_sides<F: Field, const N: usize>(
+    field: F,
+    slots: Slots,
+    slot: usize,
+    factors: &[u64; N],
+    right: u64,
+) -> u64
+    requires slots { AreSlots F.modulus slots }
+    requires few { N ≤ 4 }
+    requires within { slot + N ≤ slots.unknowns }
+    requires factors { (t : ℕ) → t < N → slice_index factors.now t < F.modulus }
+    requires used { (t : ℕ) → t < N → slice_index slots.ends.now (slot + t) ≢ 0 }
+    requires right { right < F.modulus }
+    ensures sum { result ≡ (right + multiples slots.entry slot factors.now N slots.entry.unknowns) % F.modulus }
+    ensures residue { result < F.modulus }
+{
+    let mut sum = right as u128;
+    for (index, factor) in factors.iter().enumerate() {
+        let word = slots.rows[(slot + index) * (slots.unknowns + 2)];
+        sum += *factor as u128 * word as u128;
+    }
+    field.fold(sum)
+}
+
 /// Adds multiples of rows to the entries from a place on, and to the right side: all at once as far as they share, then each
 /// to its end.
 fn add_group<F: Field, const N: usize>(
@@ -139,7 +166,7 @@ fn add_group<F: Field, const N: usize>(
         );
     }
     let right = row[slots.unknowns];
-    row[slots.unknowns] = with_multiples(field, slots, slot, factors, slots.unknowns, right);
+    row[slots.unknowns] = with_right_sides(field, slots, slot, factors, right);
 }
 
 /// Takes the group's rows from the entries of the row from `from` on.

@@ -1,6 +1,7 @@
 //! The slots of the rows that are kept, where they are only read.
 
-/// Slots that are lent to be read: each row begins at the place of its slot with 1, and is kept from there to its end.
+/// Slots that are lent to be read: each row begins at the place of its slot with 1, and is kept from there to its end, with its
+/// right side in place of the 1.
 #[derive(Clone, Copy)]
 pub struct Slots<'a> {
     /// How many unknowns there are, and as many slots.

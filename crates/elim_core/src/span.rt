@@ -27,7 +27,7 @@ pub fn later(place: usize, other: usize) -> usize
 
 /// An entry with the entries at its place of the rows in the slots from `slot` on, each times its factor: one fold for all.
 #[inline(always)]
-pub fn with_multiples<F: Field, const N: usize>(
+fn with_multiples<F: Field, const N: usize>(
     field: F,
     slots: Slots,
     slot: usize,
@@ -38,7 +38,7 @@ pub fn with_multiples<F: Field, const N: usize>(
     requires slots { AreSlots F.modulus slots }
     requires few { N ≤ 4 }
     requires within { slot + N ≤ slots.unknowns }
-    requires place { place ≤ slots.unknowns }
+    requires place { place < slots.unknowns }
     requires factors { (t : ℕ) → t < N → slice_index factors.now t < F.modulus }
     requires stored { (t : ℕ) → t < N → IsStored slots (slot + t) place }
     requires value { value < F.modulus }

@@ -33,7 +33,7 @@ fn solved(
     let end = ends[place] as usize;
     let words = &rows[start + place + 1..start + end];
     let sum = dot(modulus, words, &values[place + 1..end]);
-    modulus.sub(rows[start + unknowns], sum)
+    modulus.sub(rows[start + place], sum)
 }
 
 /// Completes the values at the places of empty slots by those that the kept rows tell.

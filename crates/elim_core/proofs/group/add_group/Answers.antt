@@ -1,6 +1,6 @@
 use Rattle.std.proofs.Common.{◌≡◌, ℕ, ◌+◌, subst, arith}
 use Rattle.elim_core.specs.Multiples.{multiples, IsAdded}
-use Rattle.elim_core.proofs.Entries.{entry-within, entry-right}
+use Rattle.elim_core.proofs.Entries.{entry-within}
 use Rattle.elim_core.proofs.Added.{added-both, added-on, added-right, added-same}
 use Rattle.elim_core.proofs.Taken.{multiples-next}
 use Rattle.elim_core.proofs.group.add_group.Goals as goal
@@ -24,7 +24,7 @@ add_rows-requires g c = (
                 c.requires.shared,
                 λ t k t_low above low.
                     entry-within c.args.slots.unknowns c.args.slots.rows.now c.args.slots.ends.now (c.args.slot + t) k (c.requires.used t t_low) (omega arith)
-                    (omega (arith, c.requires.share t t_low (omega arith))),
+                    (omega (arith, c.requires.share t t_low (omega arith))) (omega arith),
               ),
             ),
           ),
@@ -41,32 +41,6 @@ loop-index-preserved g c = (
       (multiples-next c.args.slots c.args.slot c.args.factors.now c.loop-index.index),
 )
 
-pub with_multiples-requires : goal.with_multiples-requires
-with_multiples-requires g c = (
-  omega arith,
-  (
-    c.requires.slots,
-    (
-      c.requires.few,
-      (
-        omega arith,
-        (
-          omega arith,
-          (
-            c.requires.factors,
-            (
-              λ t t_low.
-                  entry-right c.args.slots.unknowns c.args.slots.rows.now c.args.slots.ends.now (c.args.slot + t) (c.requires.used t t_low) (omega arith)
-                  (c.requires.slots.laid_out.within (c.args.slot + t) (omega arith)),
-              c.loop-index.invariant.0.residues c.args.slots.unknowns (omega arith),
-            ),
-          ),
-        ),
-      ),
-    ),
-  ),
-)
-
 pub returns-clause-added : goal.returns-clause-added
 returns-clause-added g c =
     let all : c.loop-index.index ≡ g.row.N = omega arith in
@@ -74,7 +48,7 @@ returns-clause-added g c =
     let rests : IsAdded g.F.Field.modulus c.add_rows.new.row c.loop-index.row c.args.shared c.args.slots.unknowns sums =
     subst (λ (n : ℕ). IsAdded g.F.Field.modulus c.add_rows.new.row c.loop-index.row c.args.shared c.args.slots.unknowns (multiples c.args.slots c.args.slot c.args.factors.now n))
     all c.loop-index.invariant.1 in
-    added-right g.F.Field.modulus c.args.slots.unknowns c.args.row.now c.loop-index.row c.args.from c.with_multiples.result sums
+    added-right g.F.Field.modulus c.args.slots.unknowns c.args.row.now c.loop-index.row c.args.from c.with_right_sides.result sums
     (added-on g.F.Field.modulus c.args.row.now c.add_rows.new.row c.loop-index.row c.args.from c.args.shared c.args.slots.unknowns sums
     c.add_rows.ensures.added rests c.requires.from c.requires.shared)
-    c.loop-index.invariant.0.room (omega arith) c.with_multiples.ensures.sum
+    c.loop-index.invariant.0.room (omega arith) c.with_right_sides.ensures.sum

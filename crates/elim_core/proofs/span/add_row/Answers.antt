@@ -27,7 +27,7 @@ add_rows-requires g c = (
                 λ t k t_low above low.
                     let same : c.args.slot ≡ c.args.slot + t = omega arith in
                     subst (λ (j : ℕ). IsStored c.args.slots j k) same
-                    (entry-within c.args.slots.unknowns c.args.slots.rows.now c.args.slots.ends.now c.args.slot k c.requires.used (omega arith) (omega arith)),
+                    (entry-within c.args.slots.unknowns c.args.slots.rows.now c.args.slots.ends.now c.args.slot k c.requires.used (omega arith) (omega arith) (omega arith)),
               ),
             ),
           ),

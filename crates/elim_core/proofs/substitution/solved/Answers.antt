@@ -23,6 +23,6 @@ returns-clause-left c =
     let place = c.args.place in
     let whole = sum-after m u rows ends c.args.values.now place c.requires.laid_out c.requires.place c.requires.used _ _ (omega arith) (omega arith) in
     c.sub.ensures.difference ∙
-    ap (λ x. (get_or rows (place * (u + 1) + u) 0 + (m - x)) % m) (c.dot-sum.ensures.sum ∙ ap (λ x. x % m) whole) ∙
+    ap (λ x. (get_or rows (place * (u + 1) + place) 0 + (m - x)) % m) (c.dot-sum.ensures.sum ∙ ap (λ x. x % m) whole) ∙
     ap (λ x. (x + (m - sum_to u (term u rows ends c.args.values.now place) % m)) % m)
-    (sym (entry-right u rows ends place c.requires.used c.requires.place (c.requires.laid_out.within place c.requires.place)))
+    (sym (entry-right u rows ends place c.requires.used c.requires.place))
